@@ -15,7 +15,7 @@ use Rattle.wu_arguments.specs.declared.option.LineOption.TheVariants.{Database, 
 use Rattle.wu_arguments.specs.declared.option.OptionValue.{OptionValue}
 use Rattle.wu_arguments.specs.declared.option.OptionValue.TheVariants.{Text, TextIfAny, Number, Word}
 use Rattle.wu_arguments.specs.declared.subcommand.Subcommand.{Subcommand}
-use Rattle.wu_arguments.specs.declared.subcommand.Subcommand.TheVariants.{Import, Pass, Cancel, Cycle, Show, Upgrade, Script, Session, Check, Backup, Explain}
+use Rattle.wu_arguments.specs.declared.subcommand.Subcommand.TheVariants.{Import, Pass, Cancel, Cycle, Show, Imports, Upgrade, Script, Session, Check, Backup, Explain}
 
 -- The name of an option, without its two hyphens.
 abbrev pub option_name : LineOption → List ℕ
@@ -83,6 +83,7 @@ subcommand_name (Pass pass.Purge) = codes "purge"
 subcommand_name Cancel = codes "cancel"
 subcommand_name Cycle = codes "cycle"
 subcommand_name Show = codes "show"
+subcommand_name Imports = codes "imports"
 subcommand_name Upgrade = codes "upgrade"
 subcommand_name Script = codes "script"
 subcommand_name Session = codes "session"
@@ -106,6 +107,7 @@ options_of (Pass pass) = Database ∷ options_if (takes_moment pass) Now (Limit 
 options_of Cancel = Database ∷ Workunit ∷ []
 options_of Cycle = Database ∷ Now ∷ Limit ∷ MinAge ∷ []
 options_of Show = Database ∷ View ∷ []
+options_of Imports = Database ∷ []
 options_of Upgrade = Database ∷ []
 options_of Script = Database ∷ File ∷ []
 options_of Session = Database ∷ []
@@ -117,7 +119,7 @@ abbrev pub all_subcommands : List Subcommand
 all_subcommands =
     Import kind.Batch ∷ Import kind.Sent ∷ Import kind.Reported ∷ Import kind.Classes
     ∷ Pass pass.Transition ∷ Pass pass.Validate ∷ Pass pass.Assimilate ∷ Pass pass.Delete ∷ Pass pass.Purge
-    ∷ Cancel ∷ Cycle ∷ Show ∷ Upgrade ∷ Script ∷ Session ∷ Check ∷ Backup ∷ Explain ∷ []
+    ∷ Cancel ∷ Cycle ∷ Show ∷ Imports ∷ Upgrade ∷ Script ∷ Session ∷ Check ∷ Backup ∷ Explain ∷ []
 
 -- The subcommand of this name.
 abbrev pub subcommand_named : List ℕ → Option Subcommand

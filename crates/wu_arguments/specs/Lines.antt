@@ -5,7 +5,7 @@ use Rattle.clap.specs.Words.{Row, first_of, one_of}
 use Rattle.wu_core.specs.declared.import.ImportKind.{ImportKind}
 use Rattle.wu_core.specs.declared.import.ImportKind.TheVariants.{Batch}
 use Rattle.wu_machine.specs.declared.view.View.{View}
-use Rattle.wu_machine.specs.declared.view.View.TheVariants.{Workunits, Results, Hosts, Archive, Summary, Classes}
+use Rattle.wu_machine.specs.declared.view.View.TheVariants.{Workunits, Results, Hosts, Archive, Summary, Classes, Imports}
 use Rattle.wu_arguments.specs.CommandLine.{file_option, option_name, takes_age, takes_moment}
 use Rattle.wu_arguments.specs.declared.option.LineOption.{LineOption}
 use Rattle.wu_arguments.specs.declared.option.LineOption.TheVariants as option
@@ -16,7 +16,7 @@ use Rattle.wu_arguments.specs.declared.line.Asking.TheVariants as asking
 use Rattle.wu_arguments.specs.declared.order.Order.{Order}
 use Rattle.wu_arguments.specs.declared.order.Order.TheVariants as order
 
--- The view of this name.
+-- The view of this name. That of imports has none: it is a subcommand of its own.
 abbrev pub view_named : List ℕ → Option View
 view_named name =
     if bytes_eq name (codes "workunits") then Some Workunits
@@ -68,6 +68,7 @@ HasValues found subcommand.Cycle (asking.Cycle now limit min_age) =
     IsTextIn found option.Now now × IsNumberIn found option.Limit limit × IsNumberIn found option.MinAge min_age
 HasValues found subcommand.Cancel (asking.Cancel workunit) = IsTextIn found option.Workunit workunit
 HasValues found subcommand.Show (asking.Show view) = IsViewIn found (Some view)
+HasValues found subcommand.Imports (asking.Show view) = view ≡ Imports
 HasValues found subcommand.Upgrade asking.Upgrade = ⊤
 HasValues found _ _ = ⊥
 

@@ -28,6 +28,7 @@ pub enum Subcommand {
     Cancel,
     Cycle,
     Show,
+    Imports,
     Upgrade,
     Script,
     Session,
@@ -37,7 +38,7 @@ pub enum Subcommand {
 }
 
 /// All subcommands, in the order of help.
-pub const SUBCOMMANDS: [Subcommand; 18] = [
+pub const SUBCOMMANDS: [Subcommand; 19] = [
     Subcommand::Import(ImportKind::Batch),
     Subcommand::Import(ImportKind::Sent),
     Subcommand::Import(ImportKind::Reported),
@@ -50,6 +51,7 @@ pub const SUBCOMMANDS: [Subcommand; 18] = [
     Subcommand::Cancel,
     Subcommand::Cycle,
     Subcommand::Show,
+    Subcommand::Imports,
     Subcommand::Upgrade,
     Subcommand::Script,
     Subcommand::Session,
@@ -154,6 +156,12 @@ impl Subcommand {
                 about: "Print a view of the project",
                 example: "Example: lintelthyme show --db project.db --view summary",
             },
+            Subcommand::Imports => SubcommandForm {
+                name: "imports",
+                options: &[LineOption::Database],
+                about: "Print a line for each file that was imported, with its applied and skipped rows",
+                example: "Example: lintelthyme imports --db project.db",
+            },
             Subcommand::Upgrade => SubcommandForm {
                 name: "upgrade",
                 options: &[LineOption::Database],
@@ -195,7 +203,7 @@ impl Subcommand {
 
     /// Returns the subcommand of this name.
     pub fn named(name: &str) -> Option<Subcommand>
-        // Each of the eighteen names gives its subcommand, and any other text `None`.
+        // Each of the nineteen names gives its subcommand, and any other text `None`.
         ensures { result ≡ subcommand_named name.now }
     {
         for one in SUBCOMMANDS {

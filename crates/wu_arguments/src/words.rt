@@ -17,6 +17,7 @@ use crate::word::Word;
 use clap::ArgMatches;
 use std::alloc::Global;
 use wu_core::ImportKind;
+use wu_machine::View;
 use wu_rules::Pass;
 
 /// Returns the option that names the file of such an import.
@@ -69,7 +70,8 @@ fn takes_moment(pass: Pass) -> bool
 fn moment(alloc: Global, pass: Pass, found: &ArgMatches<'_>) -> Result<Option<Word>, Usage>
     ensures value { IfOk result
         (IsTextIf (takes_moment pass) (rows_of (found_of found.now)) LineOption.Now) }
-    ensures refused { IfErr result (IsLacking (rows_of (found_of found.now)) (Subcommand.Pass pass)) }
+    ensures refused { IfErr result
+        (IsLacking (rows_of (found_of found.now)) (Subcommand.Pass pass)) }
 {
     if takes_moment(pass) {
         Ok(Some(text(alloc, found, LineOption::Now)?))
@@ -82,7 +84,8 @@ fn moment(alloc: Global, pass: Pass, found: &ArgMatches<'_>) -> Result<Option<Wo
 fn min_age(pass: Pass, found: &ArgMatches<'_>) -> Result<Option<u64>, Usage>
     ensures value { IfOk result
         (IsNumberIf (takes_age pass) (rows_of (found_of found.now)) LineOption.MinAge) }
-    ensures refused { IfErr result (IsLacking (rows_of (found_of found.now)) (Subcommand.Pass pass)) }
+    ensures refused { IfErr result
+        (IsLacking (rows_of (found_of found.now)) (Subcommand.Pass pass)) }
 {
     match pass {
         Pass::Purge => Ok(Some(number(found, LineOption::MinAge)?)),
@@ -189,6 +192,7 @@ fn order_of(alloc: Global, subcommand: Subcommand, found: &ArgMatches<'_>) -> Re
         Subcommand::Cancel => line(alloc, read_cancel(alloc, found)?, found),
         Subcommand::Cycle => line(alloc, read_cycle(alloc, found)?, found),
         Subcommand::Show => line(alloc, Asking::Show(view(found)?), found),
+        Subcommand::Imports => line(alloc, Asking::Show(View::Imports), found),
         Subcommand::Upgrade => line(alloc, Asking::Upgrade, found),
         Subcommand::Script => script(alloc, found),
         Subcommand::Session => Ok(Order::Session(text(alloc, found, LineOption::Database)?)),

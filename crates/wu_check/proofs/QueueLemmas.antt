@@ -26,7 +26,7 @@ queue_asked = record {
   parameters = [];
   shown = 0 ∷ 1 ∷ 2 ∷ 3 ∷ 4 ∷ 5 ∷ [];
   tests = [];
-  order = Some 0;
+  order = 0 ∷ [];
   limit = None;
   upto = lit (Int (negsuc 0));
 }

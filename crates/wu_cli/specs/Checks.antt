@@ -6,8 +6,7 @@ use Rattle.std.specs.declared.io.ErrorKind.TheVariants.{NotFound, OutOfMemory, P
 use Rattle.sqlite.specs.declared.error.Error.{Error}
 use Rattle.sqlite.specs.declared.error.Error.TheVariants.{SqliteFailure}
 use Rattle.sqlite.specs.declared.error.ErrorCode.TheVariants as code
-use Rattle.wu_core.specs.declared.import.ImportKind.{ImportKind}
-use Rattle.wu_core.specs.declared.import.ImportKind.TheVariants as kind
+use Rattle.wu_core.specs.Words.{import_kind_word}
 use Rattle.wu_audit.specs.Words.{wrong_word}
 use Rattle.wu_check.specs.declared.finding.Finding.{Finding}
 use Rattle.wu_check.specs.declared.finding.Finding.TheVariants as finding
@@ -32,12 +31,6 @@ sound_line version workunits results =
 
 -- ---- an unsound one
 
-abbrev pub kind_word : ImportKind → List ℕ
-kind_word kind.Batch = codes "batch"
-kind_word kind.Sent = codes "sent"
-kind_word kind.Reported = codes "reported"
-kind_word kind.Classes = codes "classes"
-
 -- The name of a table, as it is printed before a row's place.
 abbrev pub row_front : LoadedTable → List ℕ
 row_front table.Project = codes "project row "
@@ -56,7 +49,7 @@ key_text key.Project = codes "project"
 key_text (key.Workunit number) = codes "workunit " ++ decimal number
 key_text (key.Grant place) = codes "credit_grant " ++ decimal place
 key_text (key.Archived place) = codes "archived " ++ decimal place
-key_text (key.Import kind name) = codes "import " ++ kind_word kind ++ codes " " ++ name
+key_text (key.Import kind name) = codes "import " ++ import_kind_word kind ++ codes " " ++ name
 key_text (key.HostClass host) = codes "host_class " ++ host
 
 -- What is printed behind the name of a table that is missing. Without its first table there is no project.

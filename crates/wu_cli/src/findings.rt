@@ -5,27 +5,15 @@ ghost use Rattle.std.specs.Fmt.{decimal};
 ghost use Rattle.wu_core.specs.declared.fault.Fault.TheVariants.{Output};
 ghost use Rattle.wu_report.specs.Texts.{line_end};
 ghost use Rattle.wu_report.specs.Writing.{WritesTo};
-ghost use Rattle.wu_cli.specs.Checks.{finding_line, key_text, kind_word, misfit_line, missing_text, row_front, sound_line};
+ghost use Rattle.wu_cli.specs.Checks.{finding_line, key_text, misfit_line, missing_text, row_front, sound_line};
 
 use crate::texts::{placed, write_flushed, write_line};
 use std::io::Write;
 use wu_check::{Finding, Key};
-use wu_core::{Fault, ImportKind};
+use wu_core::Fault;
 use wu_loader::finding::LoadedTable;
 use wu_report::{Piece, write_pieces};
 use wu_tables::{Misfit, ProjectTable};
-
-/// Returns the word of the subcommand that imports such files.
-fn kind_word(kind: ImportKind) -> &'static str
-    ensures { result.now ≡ kind_word kind }
-{
-    match kind {
-        ImportKind::Batch => "batch",
-        ImportKind::Sent => "sent",
-        ImportKind::Reported => "reported",
-        ImportKind::Classes => "classes",
-    }
-}
 
 /// Returns the name of a table before a row's place.
 fn row_front(table: LoadedTable) -> &'static str
@@ -64,7 +52,7 @@ fn write_key<W: Write>(out: &mut W, key: &Key) -> Result<(), Fault>
             out,
             &[
                 Piece::Text("import "),
-                Piece::Text(kind_word(*kind)),
+                Piece::Text(kind.word()),
                 Piece::Text(" "),
                 Piece::Text(name.as_str()),
             ],

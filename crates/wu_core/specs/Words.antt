@@ -16,6 +16,8 @@ use Rattle.wu_core.specs.declared.fault.TemplateKey.{TemplateKey}
 use Rattle.wu_core.specs.declared.fault.TemplateKey.TheVariants as key
 use Rattle.wu_core.specs.declared.fault.FileCause.{FileCause}
 use Rattle.wu_core.specs.declared.fault.FileCause.TheVariants as cause
+use Rattle.wu_core.specs.declared.import.ImportKind.{ImportKind}
+use Rattle.wu_core.specs.declared.import.ImportKind.TheVariants as kind
 
 -- BOINC's word for the state of an instance.
 abbrev pub server_state_word : ServerState → List ℕ
@@ -56,6 +58,13 @@ file_delete_word file_delete.Init = codes "INIT"
 file_delete_word file_delete.Ready = codes "READY"
 file_delete_word file_delete.Done = codes "DONE"
 file_delete_word file_delete.Error = codes "ERROR"
+
+-- The word of the subcommand that imports such a file.
+abbrev pub import_kind_word : ImportKind → List ℕ
+import_kind_word kind.Batch = codes "batch"
+import_kind_word kind.Sent = codes "sent"
+import_kind_word kind.Reported = codes "reported"
+import_kind_word kind.Classes = codes "classes"
 
 -- The word of a status in a file of reports.
 abbrev pub status_word : Status → List ℕ

@@ -2,6 +2,7 @@
 
 ghost use Rattle.std.specs.Prelude.{◌≡◌};
 ghost use Rattle.wu_core.specs.Codes.{Decodes, import_kind_code};
+ghost use Rattle.wu_core.specs.Words.{import_kind_word};
 ghost use Rattle.wu_core.specs.World.{last_skip};
 
 /// What an imported file holds.
@@ -33,6 +34,19 @@ impl ImportKind {
             3 => Some(ImportKind::Reported),
             4 => Some(ImportKind::Classes),
             _ => None,
+        }
+    }
+
+    /// Returns the word of the subcommand that imports such a file, as views and checks print it.
+    pub fn word(self) -> &'static str
+        // The word is that of the kind.
+        ensures { result.now ≡ import_kind_word self }
+    {
+        match self {
+            ImportKind::Batch => "batch",
+            ImportKind::Sent => "sent",
+            ImportKind::Reported => "reported",
+            ImportKind::Classes => "classes",
         }
     }
 

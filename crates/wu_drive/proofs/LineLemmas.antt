@@ -4,7 +4,8 @@ use Rattle.std.specs.Prelude.{codes, Option}
 use Rattle.std.proofs.lemmas.List.FromFn.{get_or-enumerate_from}
 use Rattle.std.proofs.lemmas.Grind.{get_or_default_zero}
 use Rattle.std.specs.List.{enumerate_from}
-use Rattle.wu_drive.specs.Texts.{applied_count, batch_text, classes_text, number_or_dash, reply_text, rows_text, skip_lines}
+use Rattle.wu_report.specs.Texts.{applied_count, number_or_dash}
+use Rattle.wu_drive.specs.Texts.{batch_text, classes_text, reply_text, rows_text, skip_lines}
 use Rattle.wu_machine.specs.Requests.{Cancelled}
 
 pub cancel_pieces-are : (name word : List ℕ) → word ≡ name → reply_text (Cancelled name) ≡ codes "cancel " ++ (word ++ (codes ": done" ++ (codes "\n" ++ [])))

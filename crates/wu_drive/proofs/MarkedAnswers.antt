@@ -1,5 +1,5 @@
 -- No line of an answer begins with '=': the words of skips, the lines of skipped rows, and the text.
-use Rattle.std.proofs.Common.{◌≡◌, ℕ, ◌-◌, ◌==◌, length, ap, ◌∙◌, Bool, true, false, cond, List, [], ◌∷◌, ◌++◌, Option, Some, None, IfSome, decimal, append_assoc, refl}
+use Rattle.std.proofs.Common.{◌≡◌, ℕ, ◌-◌, length, ap, ◌∙◌, true, false, List, [], ◌∷◌, ◌++◌, Option, Some, None, IfSome, decimal, append_assoc, refl}
 use Rattle.std.specs.List.{AllByRecursion, enumerate_from}
 use Rattle.std.specs.Option.{option_map_or}
 use Rattle.std.specs.Prelude.{⊤, codes}
@@ -13,10 +13,11 @@ use Rattle.wu_rules.specs.declared.verdicts.SendVerdict.{SendVerdict}
 use Rattle.wu_rules.specs.declared.verdicts.SendVerdict.TheVariants as send
 use Rattle.wu_rules.specs.Verdicts.{report_verdict_word, send_verdict_word}
 use Rattle.wu_machine.specs.Requests.{Reply, Imported, Passed, Cancelled, Upgraded}
-use Rattle.wu_report.specs.Texts.{line_end}
+use Rattle.wu_report.specs.Texts.{applied_count, line_end, number_or_dash}
 use Rattle.wu_report.proofs.MarkLemmas.{IsInside, is_unmarked, IsWhole, past, past_decimal, past_name, whole_append, whole_flat_map}
 use Rattle.wu_drive.specs.Marks.{HasValidName}
-use Rattle.wu_drive.specs.Texts.{applied_count, number_or_dash, pass_word, reply_text, rows_text, report_skip_word, report_verdict_numbered, send_skip_word, send_verdict_numbered, skip_line, skip_lines}
+use Rattle.wu_report.proofs.MarkedLines.{past_number}
+use Rattle.wu_drive.specs.Texts.{pass_word, reply_text, rows_text, report_skip_word, report_verdict_numbered, send_skip_word, send_verdict_numbered, skip_line, skip_lines}
 
 -- ---- lines
 
@@ -80,13 +81,6 @@ module _ (word : ℕ → Option (List ℕ)) (inside : (number : ℕ) → IfSome 
   skips_whole verdicts = whole_flat_map (λ _. ⊤) (skip_line word) (λ row _. skip_whole row) (enumerate_from 2 verdicts) (λ k d within. tt)
 
 -- ---- answers
-
-past_number : (n : ℕ) (rest : List ℕ) → is_unmarked false (number_or_dash n ++ rest) ≡ is_unmarked false rest
-past_number n rest = by_test (n == 0)
-  where
-    by_test : (b : Bool) → is_unmarked false (cond b (codes "-") (decimal n) ++ rest) ≡ is_unmarked false rest
-    by_test true = refl
-    by_test false = past_decimal n rest
 
 begun_pass : (pass : Pass) (rest : List ℕ) → is_unmarked true (pass_word pass ++ rest) ≡ is_unmarked false rest
 begun_pass Transition rest = refl

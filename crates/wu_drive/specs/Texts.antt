@@ -1,5 +1,5 @@
 -- The texts of answers and of faults, as functions of values. Each line ends with a line feed.
-use Rattle.std.specs.Prelude.{ℕ, ◌-◌, ◌==◌, if◌then◌else◌, List, [], ◌∷◌, ◌++◌, length, find, flat_map, count_by, codes, Option, None}
+use Rattle.std.specs.Prelude.{ℕ, ◌-◌, ◌==◌, List, [], ◌∷◌, ◌++◌, length, find, flat_map, codes, Option, None}
 use Rattle.std.specs.Fmt.{decimal}
 use Rattle.std.specs.List.{enumerate_from}
 use Rattle.std.specs.Option.{option_map_or}
@@ -8,7 +8,7 @@ use Rattle.wu_core.specs.declared.fault.Fault.TheVariants as fault
 use Rattle.wu_core.specs.declared.import.ImportKind.{ImportKind}
 use Rattle.wu_core.specs.declared.import.ImportKind.TheVariants as kind
 use Rattle.wu_core.specs.Words.{template_key_word, file_cause_word}
-use Rattle.wu_report.specs.Texts.{line_end}
+use Rattle.wu_report.specs.Texts.{applied_count, line_end, number_or_dash}
 use Rattle.wu_rules.specs.declared.due.Pass.{Pass}
 use Rattle.wu_rules.specs.declared.due.Pass.TheVariants.{Transition, Validate, Assimilate, Delete, Purge}
 use Rattle.wu_rules.specs.Verdicts.{report_verdict_code, report_verdict_word, send_verdict_code, send_verdict_word}
@@ -38,10 +38,6 @@ fault_text fault.Broken = codes "F15 Broken"
 fault_text fault.Ended = codes "F16 Ended"
 fault_text fault.Output = codes "F17 Output"
 
--- A number in decimal, or '-' for 0.
-abbrev pub number_or_dash : ℕ → List ℕ
-number_or_dash n = if n == 0 then codes "-" else decimal n
-
 -- The verdict on a row of sends that has this number, or `None`.
 abbrev pub send_verdict_numbered : ℕ → Option SendVerdict
 send_verdict_numbered number =
@@ -69,9 +65,6 @@ skip_line word row =
 -- A line for each skipped row; the first row after the header is row 2.
 abbrev pub skip_lines : (ℕ → Option (List ℕ)) → List ℕ → List ℕ
 skip_lines word verdicts = flat_map (skip_line word) (enumerate_from 2 verdicts)
-
-abbrev pub applied_count : List ℕ → ℕ
-applied_count verdicts = count_by (λ verdict. verdict == 0) verdicts
 
 -- How many rows of a file were applied, how many were skipped, and why each of these was skipped.
 abbrev pub rows_text : List ℕ → List ℕ → (ℕ → Option (List ℕ)) → List ℕ → List ℕ

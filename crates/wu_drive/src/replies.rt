@@ -2,15 +2,15 @@
 
 ghost use Rattle.std.specs.Prelude.{◌≡◌, IsOkUnless, option_map};
 ghost use Rattle.wu_core.specs.declared.fault.Fault.TheVariants.{Output};
-ghost use Rattle.wu_drive.specs.Texts.{applied_count, batch_text, classes_text, import_text, number_or_dash, pass_word, reply_text, report_skip_word, send_skip_word};
+ghost use Rattle.wu_drive.specs.Texts.{batch_text, classes_text, import_text, pass_word, reply_text, report_skip_word, send_skip_word};
 ghost use Rattle.wu_machine.specs.Requests.{Cancelled, Passed, Upgraded};
 ghost use Rattle.wu_drive.specs.Writing.{answer_text, applied_text, file_word, skip_word, skipped_line, skipped_lines};
-ghost use Rattle.wu_report.specs.Writing.{CutsWhatFails, piece_text, WritesTo};
+ghost use Rattle.wu_report.specs.Writing.{CutsWhatFails, WritesTo};
 
 use std::io::Write;
 use wu_core::{Fault, ImportKind, Name};
 use wu_passes::{Answer, Pass};
-use wu_report::{Piece, flush, write_pieces};
+use wu_report::{Piece, applied_count, flush, number_or_dash, write_pieces};
 use wu_rules::{ReportVerdict, SendVerdict};
 
 /// An imported file whose rows are applied one by one, or skipped.
@@ -90,13 +90,6 @@ fn write_skips<W: Write>(out: &mut W, file: AppliedFile, verdicts: &[u8]) -> Res
     Ok(())
 }
 
-/// Returns how many rows were applied.
-fn applied_count(verdicts: &[u8]) -> usize
-    ensures { result ≡ applied_count verdicts.now }
-{
-    verdicts.iter().filter(|verdict| **verdict == 0).count()
-}
-
 /// Writes how many rows of a file were applied and how many skipped, and why each of these was.
 fn write_applied<W: Write>(
     out: &mut W,
@@ -125,17 +118,6 @@ fn write_applied<W: Write>(
         ],
     )?;
     write_skips(out, file, verdicts)
-}
-
-/// Returns the number, or `-` for 0.
-fn number_or_dash(number: u64) -> Piece<'static>
-    ensures { piece_text result ≡ number_or_dash number }
-{
-    if number == 0 {
-        Piece::Text("-")
-    } else {
-        Piece::Number(number)
-    }
 }
 
 /// Writes how many workunits a batch added, and the first one's number.

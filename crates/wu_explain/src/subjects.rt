@@ -105,6 +105,13 @@ answered first and changes nothing of the project; other content under the name 
 F4. A name that was refused is not used up. So after a stop an import may be
 repeated under its name: it acts once. Its rows are judged once too: give a row
 that was skipped again under another name.
+The subcommand imports prints a line for each, in order of kind and of the bytes of
+its name
+  kind name
+  rows=         how many rows its file had, without the header
+  applied= skipped=
+                how many of them were, and were not: explain skips
+  first=        of a batch the number of its first workunit, - where it has none
 ",
         ),
         "passes" => Some(

@@ -1,18 +1,17 @@
 -- How rows read as values.
-use Rattle.wu_schema.proofs.Words.{Archived, Err, Fault, Grant, Import, ImportKind, Instance, IsErrAnd, NotAProject, Ok, Result, Row, Value, [], ap, column, drop, if◌then◌else◌, import_cells, import_kind_code, inl, inr, instance_row, length, map, number, number_or_null, refl, subst, sym, text_or_null, ℕ, ⊤, ◌++◌, ◌==◌, ◌∙◌, ◌∷◌, ◌≡◌, ◌≢◌, ◌≤◌}
+use Rattle.wu_schema.proofs.Words.{Archived, Err, Fault, Grant, Import, Instance, IsErrAnd, NotAProject, Ok, Result, Row, Value, [], ap, column, drop, import_cells, inl, inr, instance_row, length, map, number, number_or_null, refl, subst, sym, text_or_null, ℕ, ⊤, ◌++◌, ◌∙◌, ◌∷◌, ◌≡◌, ◌≢◌, ◌≤◌}
 use Rattle.std.specs.List.{range_with_len}
 use Rattle.wu_core.specs.World.{MayBeKept}
 use Rattle.sqlite.specs.declared.types.Value.TheVariants.{Text, Blob}
 use Rattle.wu_core.specs.Limits.{last_moment}
 use Rattle.wu_core.specs.Storable.{AreVerdicts, IsHost, IsName, IsOutput, IsPlace, IsStoredArchived, MayBeInstance}
-use Rattle.wu_core.specs.declared.import.ImportKind.TheVariants as kind
 use Rattle.wu_core.proofs.MaskLemmas.{flags_of}
 use Rattle.wu_schema.specs.Restoring.{Restores}
-use Rattle.wu_schema.specs.Reading.{columns, mask_cell, verdicts_cell}
+use Rattle.wu_schema.specs.Reading.{columns, kind_cell, mask_cell, verdicts_cell}
 use Rattle.wu_core.specs.Formed.{IsInstance}
 use Rattle.wu_schema.proofs.ReadingLemmas.{as_columns, not_ok, same_verdicts}
-use Rattle.wu_store.proofs.SameWorld.{mask_again, maybe_again, read_blob, read_maybe, read_number, read_text, same_instances}
-use Rattle.wu_loader.specs.Cells.{kind_cell, moment_cells, state_cells, HasMoments}
+use Rattle.wu_store.proofs.SameWorld.{kind_again, kind_of, mask_again, maybe_again, read_blob, read_maybe, read_number, read_text, same_instances}
+use Rattle.wu_loader.specs.Cells.{moment_cells, state_cells, HasMoments}
 use Rattle.wu_loader.specs.declared.rows.PlacedMoments.{PlacedMoments}
 use Rattle.wu_loader.specs.declared.rows.Placed.{Placed}
 use Rattle.wu_loader.specs.declared.rows.PlacedStates.{PlacedStates}
@@ -54,13 +53,6 @@ archived_reads row place first a long at first_is number_is name_is mask_is cano
     (record { name = name_is.value.1; canonical = canonical_is.value.1; output = output_is.value.1; done_at = done_is.value.1 }) (one_archived place)
 
 -- ---- imports
-
-abbrev kind_of : ℕ → ImportKind
-kind_of n = if n == 1 then kind.Batch else if n == 2 then kind.Sent else if n == 3 then kind.Reported else kind.Classes
-
-kind_again : (k : ImportKind) → kind_of (import_kind_code k) ≡ k
-kind_again kind.Batch = refl
-kind_again _ = refl
 
 -- the values of an import's row
 pub record ImportReads (row : Row) (a : Import) : Type 0 where

@@ -1,16 +1,11 @@
 -- Columns that are read together.
 use Rattle.std.specs.Prelude.{[], ◌∷◌}
 use Rattle.sqlite.specs.Order.{Row}
-use Rattle.sqlite.specs.declared.types.Value.{Value}
-use Rattle.wu_core.specs.declared.import.ImportKind.{ImportKind}
-use Rattle.wu_core.specs.Codes.{file_delete_code, import_kind_code, outcome_code, server_state_code, validate_state_code}
+use Rattle.wu_core.specs.Codes.{file_delete_code, outcome_code, server_state_code, validate_state_code}
 use Rattle.wu_core.specs.Storable.{AreMoments}
 use Rattle.wu_schema.specs.Stored.{number, number_or_null}
 use Rattle.wu_loader.specs.declared.rows.PlacedMoments.{PlacedMoments}
 use Rattle.wu_loader.specs.declared.rows.PlacedStates.{PlacedStates}
-
-abbrev pub kind_cell : ImportKind → Value
-kind_cell kind = number (import_kind_code kind)
 
 -- The columns of an instance's states, and of its moments.
 abbrev pub state_cells : PlacedStates → Row

@@ -6,7 +6,6 @@
 #![tactic(auto)]
 
 mod classes;
-mod columns;
 mod dealing;
 pub mod finding;
 mod hosts;

@@ -9,7 +9,6 @@ ghost use Rattle.wu_schema.specs.Reading.{columns};
 ghost use Rattle.wu_loader.specs.Cells.{moment_cells, state_cells, HasMoments};
 ghost use Rattle.wu_loader.specs.Rows.{archived_row, classed_row, grant_row, host_row, placed_row, project_row, IsStoredClass, IsStoredGrant, IsStoredHost, IsStoredHostClass, IsStoredImport, IsStoredPlaced, IsStoredProject};
 
-use crate::columns::kind_at;
 use sqlite::Row;
 use std::alloc::Global;
 use wu_audit::Imported;
@@ -20,8 +19,8 @@ use wu_core::{
 use wu_schema::number_at;
 use wu_schema::rows::{
     bytes_at, class_at, deadline_at, file_delete_at, host_at, instance_number_at, is_formed,
-    mask_at, moment_at, name_at, outcome_at, output_at, place_at, server_state_at, stamp_at,
-    validate_state_at, verdicts_at, workunit_from,
+    kind_at, mask_at, moment_at, name_at, outcome_at, output_at, place_at, server_state_at,
+    stamp_at, validate_state_at, verdicts_at, workunit_from,
 };
 
 /// What a row of a table represents.

@@ -15,4 +15,6 @@ pub enum View {
     Summary,
     /// A line for each host that has a class, in order of the bytes of its name.
     Classes,
+    /// A line for each import, in order of its kind and of the bytes of its name.
+    Imports,
 }

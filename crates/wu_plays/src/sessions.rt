@@ -34,7 +34,7 @@ fn write_view<S: Alter>(
     }
 }
 
-/// Returns all six views, one after another.
+/// Returns the six views that `show` prints, one after another.
 pub fn views<S: Alter>(alloc: Global, project: &mut Project<S>) -> Result<Vec<u8>> {
     let mut out = Vec::new(alloc);
     for view in [

@@ -54,9 +54,11 @@ pub fn pages_for(rt: &HostRuntime, path: &str, work: &Work) -> usize
 /// Opens the two files of the database at a path, and locks them. A missing file is made.
 fn open_pair<S: Start>(rt: &HostRuntime, path: &str, start: S) -> Result<Files<FileFrom<S>>, Error>
     // The path that names a database in memory is refused.
-    ensures memory { path.now ≡ in_memory → result ≡ Err (Error.SqliteFailure ErrorCode.CannotOpen) }
+    ensures memory { path.now ≡ in_memory
+        → result ≡ Err (Error.SqliteFailure ErrorCode.CannotOpen) }
     // So is one that names a log.
-    ensures log { names_log path.now ≡ true → result ≡ Err (Error.SqliteFailure ErrorCode.CannotOpen) }
+    ensures log { names_log path.now ≡ true
+        → result ≡ Err (Error.SqliteFailure ErrorCode.CannotOpen) }
     // An error is one of those that come before the files are opened.
     ensures named { IfErr result (λ e. IsTrue (is_open_error e)) }
     ensures early { IfErr result IsEarly }

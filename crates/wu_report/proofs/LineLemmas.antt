@@ -1,15 +1,16 @@
 -- The pieces of a line, one after another, are the line.
-use Rattle.std.proofs.Common.{◌≡◌, ℕ, List, [], ◌++◌, Option, decimal, append_assoc, append-nil, refl, ◌∙◌}
+use Rattle.std.proofs.Common.{◌≡◌, ℕ, ◌-◌, List, [], ◌++◌, length, Option, decimal, append_assoc, append-nil, refl, ◌∙◌}
 use Rattle.std.specs.Prelude.{codes}
 use Rattle.wu_core.specs.Mask.{error_mask_code}
-use Rattle.wu_core.specs.Words.{server_state_word, outcome_word, validate_state_word, assimilate_word, file_delete_word}
+use Rattle.wu_core.specs.Words.{import_kind_word, server_state_word, outcome_word, validate_state_word, assimilate_word, file_delete_word}
 use Rattle.wu_core.specs.declared.workunit.Archived.{Archived}
 use Rattle.wu_core.specs.declared.workunit.HostClass.{HostClass}
+use Rattle.wu_views.specs.declared.lines.ImportLine.{ImportLine}
 use Rattle.wu_views.specs.declared.lines.ResultLine.{ResultLine}
 use Rattle.wu_views.specs.declared.lines.HostLine.{HostLine}
 use Rattle.wu_views.specs.declared.lines.Summary.{Summary}
 use Rattle.wu_views.specs.declared.lines.WorkunitLine.{WorkunitLine}
-use Rattle.wu_report.specs.Texts.{archived_line, bytes_text, class_line, counted, host_line, line_end, moment_text, or_dash, result_line, summary_lines, workunit_line}
+use Rattle.wu_report.specs.Texts.{applied_count, archived_line, bytes_text, class_line, counted, host_line, import_line, line_end, moment_text, number_or_dash, or_dash, result_line, summary_lines, workunit_line}
 
 -- the pieces of a workunit's line
 abbrev pub workunit_pieces : (number : ℕ) (name : List ℕ) (input quorum target errors total successes delay credit mask : ℕ) (canonical : Option ℕ) (assimilate delete : List ℕ) (done : Option ℕ) (class : ℕ) → List ℕ
@@ -59,6 +60,14 @@ archived_pieces-are a name mask output e1 e2 e3 = rw (e1, e2, e3) (simp append_a
 pub class_pieces-are : (it : HostClass) (host : List ℕ) (class : ℕ) → host ≡ it.host → class ≡ it.class
     → class_line it ≡ host ++ (codes " class=" ++ (decimal class ++ (codes "\n" ++ [])))
 class_pieces-are it host class e1 e2 = rw (e1, e2) (simp append_assoc)
+
+-- those of an import's
+pub import_pieces-are : (it : ImportLine) (word name verdicts : List ℕ) (applied : ℕ) (first : List ℕ)
+    → word ≡ import_kind_word it.kind → name ≡ it.name → verdicts ≡ it.verdicts → applied ≡ applied_count verdicts → first ≡ number_or_dash it.first_number
+    → import_line it ≡ word ++ (codes " " ++ (name ++ (codes " rows=" ++ (decimal (length verdicts)
+    ++ (codes " applied=" ++ (decimal applied ++ (codes " skipped=" ++ (decimal (length verdicts - applied)
+    ++ (codes " first=" ++ (first ++ (codes "\n" ++ [])))))))))))
+import_pieces-are it word name verdicts applied first e1 e2 e3 e4 e5 = rw (e1, e2, e4, e3, e5) (simp append_assoc)
 
 regrouped : (a b c d e f g h i j k l : List ℕ) → a ++ b ++ c ++ d ++ e ++ f ++ g ++ h ++ i ++ j ++ k ++ l ≡ a ++ (b ++ (c ++ (d ++ (e ++ (f ++ (g ++ (h ++ (i ++ (j ++ (k ++ (l ++ [])))))))))))
 regrouped a b c d e f g h i j k l = simp (append_assoc, append-nil)

@@ -1,10 +1,12 @@
 -- No line of a view begins with '=': the parts of its lines, its lines, and its text.
-use Rattle.std.proofs.Common.{◌≡◌, ℕ, ◌+◌, ◌/◌, ◌%◌, Bool, true, false, ◌&&◌, List, [], ◌∷◌, ◌++◌, map, All, Option, Some, None, decimal, append_assoc, refl}
+use Rattle.std.proofs.Common.{◌≡◌, ℕ, ◌+◌, ◌/◌, ◌%◌, ◌==◌, Bool, true, false, cond, ◌&&◌, List, [], ◌∷◌, ◌++◌, map, All, Option, Some, None, decimal, append_assoc, refl}
 use Rattle.std.proofs.lemmas.Bool.{and_from}
-use Rattle.std.proofs.lemmas.List.Elements.{All-append, All-cons, All-head, All-map, All-nil, All-tail}
+use Rattle.std.proofs.lemmas.List.Elements.{All-append, All-cons, All-from_recursion, All-head, All-map, All-nil, All-tail, recursion_from_All}
 use Rattle.std.specs.List.{enumerate_from, flat_map, list_all}
 use Rattle.std.specs.Prelude.{codes}
 use Rattle.hex.specs.Hex.{encode_lower, encode_with, lower_digits}
+use Rattle.wu_core.specs.declared.import.ImportKind.{ImportKind}
+use Rattle.wu_core.specs.declared.import.ImportKind.TheVariants as kind
 use Rattle.wu_core.specs.declared.states.Assimilate.{Assimilate}
 use Rattle.wu_core.specs.declared.states.Assimilate.TheVariants as assimilate
 use Rattle.wu_core.specs.declared.states.FileDelete.{FileDelete}
@@ -21,17 +23,20 @@ use Rattle.wu_core.specs.declared.workunit.Instance.{Instance}
 use Rattle.wu_core.specs.declared.workunit.Workunit.{Workunit}
 use Rattle.wu_core.specs.Hosts.{hosts_of}
 use Rattle.wu_core.specs.Storable.{IsHost, IsName, IsStorable, IsStoredInstance}
-use Rattle.wu_core.specs.Words.{server_state_word, outcome_word, validate_state_word, assimilate_word, file_delete_word}
-use Rattle.wu_core.specs.World.{World}
+use Rattle.wu_core.specs.Words.{import_kind_word, server_state_word, outcome_word, validate_state_word, assimilate_word, file_delete_word}
+use Rattle.wu_core.specs.World.{Import, World}
 use Rattle.wu_views.specs.declared.lines.HostLine.{HostLine}
+use Rattle.wu_views.specs.declared.lines.ImportLine.{ImportLine}
 use Rattle.wu_views.specs.declared.lines.ResultLine.{ResultLine}
 use Rattle.wu_views.specs.declared.lines.Summary.{Summary}
 use Rattle.wu_views.specs.declared.lines.WorkunitLine.{WorkunitLine}
-use Rattle.wu_views.specs.Lines.{archived_lines, class_lines, host_line_of, host_lines, line_of, result_line_of, result_lines, result_lines_of, summary_of, workunit_lines}
+use Rattle.wu_views.specs.Imports.{imports_in_order}
+use Rattle.wu_views.proofs.ImportLemmas.{each_in_order}
+use Rattle.wu_views.specs.Lines.{archived_lines, class_lines, host_line_of, host_lines, import_line_of, import_lines, line_of, result_line_of, result_lines, result_lines_of, summary_of, workunit_lines}
 use Rattle.wu_machine.specs.declared.view.View.{View}
 use Rattle.wu_machine.specs.declared.view.View.TheVariants as view
 use Rattle.wu_report.specs.Marks.{HasValidNames}
-use Rattle.wu_report.specs.Texts.{archived_line, bytes_text, class_line, counted, host_line, moment_text, or_dash, result_line, summary_lines, view_text, workunit_line}
+use Rattle.wu_report.specs.Texts.{archived_line, bytes_text, class_line, counted, host_line, import_line, moment_text, number_or_dash, or_dash, result_line, summary_lines, view_text, workunit_line}
 use Rattle.wu_report.specs.Views.{CanBeShown}
 use Rattle.wu_report.proofs.MarkLemmas.{begun, both_true, begun_decimal, begun_name, digit_inside, IsFront, is_front, IsInside, is_inside, is_unmarked, IsWhole, past, past_decimal, past_name, read_inside, whole_append, whole_flat_map}
 
@@ -62,6 +67,19 @@ hex_inside (byte ∷ bytes) =
 past_bytes : (bytes rest : List ℕ) → is_unmarked false (bytes_text bytes ++ rest) ≡ is_unmarked false rest
 past_bytes [] rest = refl
 past_bytes (byte ∷ bytes) rest = past (encode_lower (byte ∷ bytes)) (hex_inside (byte ∷ bytes)) rest
+
+pub past_number : (n : ℕ) (rest : List ℕ) → is_unmarked false (number_or_dash n ++ rest) ≡ is_unmarked false rest
+past_number n rest = by_test (n == 0)
+  where
+    by_test : (b : Bool) → is_unmarked false (cond b (codes "-") (decimal n) ++ rest) ≡ is_unmarked false rest
+    by_test true = refl
+    by_test false = past_decimal n rest
+
+begun_kind : (kind : ImportKind) (rest : List ℕ) → is_unmarked true (import_kind_word kind ++ rest) ≡ is_unmarked false rest
+begun_kind kind.Batch rest = refl
+begun_kind kind.Sent rest = refl
+begun_kind kind.Reported rest = refl
+begun_kind kind.Classes rest = refl
 
 past_server_state : (state : ServerState) (rest : List ℕ) → is_unmarked false (server_state_word state ++ rest) ≡ is_unmarked false rest
 past_server_state server.Inactive rest = refl
@@ -118,6 +136,9 @@ archived_whole row named rest =
 class_whole : (it : HostClass) → IsName it.host → IsWhole (class_line it)
 class_whole it named rest = simp (append_assoc, begun_name it.host named, past_decimal)
 
+import_whole : (it : ImportLine) → IsName it.name → IsWhole (import_line it)
+import_whole it named rest = simp (append_assoc, begun_kind, past_name it.name named, past_decimal, past_number)
+
 counted_whole : (word : List ℕ) → IsFront word → IsInside word → (n : ℕ) → IsWhole (counted word n)
 counted_whole word front inside n rest = simp (append_assoc, begun word front inside, past_decimal)
 
@@ -161,6 +182,7 @@ view_whole world view.Results named = whole_flat_map (λ (r : ResultLine). IsNam
 view_whole world view.Hosts named = whole_flat_map (λ (host : HostLine). IsName host.name) host_line host_whole (host_lines world) named
 view_whole world view.Archive named = whole_flat_map (λ (row : Archived). IsName row.name) archived_line archived_whole (archived_lines world) named
 view_whole world view.Summary named = summary_whole (summary_of world)
+view_whole world view.Imports named = whole_flat_map (λ (it : ImportLine). IsName it.name) import_line import_whole (import_lines world) named
 view_whole world view.Classes named = whole_flat_map (λ (it : HostClass). IsName it.host) class_line class_whole (class_lines world) named
 
 -- ---- names of what can be read
@@ -184,6 +206,9 @@ results_named (w ∷ workunits) all =
     (instances_named w.name storable.row.name 0 w.instances storable.instances.each)
     (results_named workunits (All-tail IsStorable w workunits all))
 
+abbrev IsImportNamed : Import → Type 0
+IsImportNamed import = IsName import.name
+
 pub names_valid : (world : World) (v : View) → CanBeShown world v → HasValidNames world v
 names_valid world view.Workunits shown = All-map (λ (w : WorkunitLine). IsName w.name) line_of world.workunits (λ k d within. (shown k d within).row.name)
 names_valid world view.Results shown = results_named world.workunits shown
@@ -191,3 +216,6 @@ names_valid world view.Hosts shown = All-map (λ (host : HostLine). IsName host.
 names_valid world view.Archive shown = λ k d within. (shown k d within).name
 names_valid world view.Summary shown = tt
 names_valid world view.Classes shown = λ k d within. (shown k d within).host
+names_valid world view.Imports shown =
+    All-map (λ (it : ImportLine). IsName it.name) import_line_of (imports_in_order world.imports)
+    (All-from_recursion IsImportNamed (imports_in_order world.imports) (each_in_order IsImportNamed world.imports (recursion_from_All IsImportNamed world.imports (λ k d within. (shown k d within).name))))

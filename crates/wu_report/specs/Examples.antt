@@ -1,6 +1,6 @@
 -- Worked examples of texts: what is printed.
-use Rattle.std.specs.Prelude.{List, [], ◌∷◌, Some}
-use Rattle.wu_core.specs.declared.import.ImportKind.TheVariants.{Batch}
+use Rattle.std.specs.Prelude.{List, [], ◌∷◌, Some, codes}
+use Rattle.wu_core.specs.declared.import.ImportKind.TheVariants.{Batch, Sent}
 use Rattle.wu_core.specs.declared.workunit.Archived.{Archived}
 use Rattle.wu_core.specs.declared.workunit.Instance.{Instance}
 use Rattle.wu_core.specs.declared.workunit.Workunit.{Workunit}
@@ -48,3 +48,13 @@ three_grants = record empty_world { grants = credit 0 h2 ∷ credit 1 h1 ∷ cre
 -- Three hosts with classes.
 abbrev pub three_hosts : World
 three_hosts = record empty_world { classes = three_classes }
+
+-- Three imports, as they came: two batches, one without a job, and sends of which one was skipped.
+abbrev pub three_imports : World
+three_imports =
+    record empty_world {
+      imports =
+          record { kind = Sent; name = codes "a"; template = []; content = []; first_number = 0; verdicts = 0 ∷ 3 ∷ 0 ∷ [] }
+          ∷ record { kind = Batch; name = codes "b2"; template = []; content = []; first_number = 0; verdicts = [] }
+          ∷ record { kind = Batch; name = codes "b1"; template = []; content = []; first_number = 1; verdicts = 0 ∷ 0 ∷ [] } ∷ [];
+    }

@@ -1,5 +1,5 @@
 -- The texts of views, as functions of values. Each line ends with a line feed.
-use Rattle.std.specs.Prelude.{ℕ, ◌+◌, ◌-◌, ◌/◌, ◌%◌, pos, int_le, List, [], ◌∷◌, ◌++◌, flat_map, count_by, codes, unsigned_abs, Option, Some, None}
+use Rattle.std.specs.Prelude.{ℕ, ◌+◌, ◌-◌, ◌/◌, ◌%◌, ◌==◌, pos, int_le, if◌then◌else◌, List, [], ◌∷◌, ◌++◌, length, flat_map, count_by, codes, unsigned_abs, Option, Some, None}
 use Rattle.std.specs.Fmt.{decimal}
 use Rattle.std.specs.List.{range_with_len}
 use Rattle.hex.specs.Hex.{encode_lower}
@@ -7,13 +7,14 @@ use Rattle.jiff_core.specs.Calendar.{days_from_civil}
 use Rattle.wu_core.specs.declared.workunit.Archived.{Archived}
 use Rattle.wu_core.specs.declared.workunit.HostClass.{HostClass}
 use Rattle.wu_core.specs.Mask.{error_mask_code}
-use Rattle.wu_core.specs.Words.{server_state_word, outcome_word, validate_state_word, assimilate_word, file_delete_word}
+use Rattle.wu_core.specs.Words.{import_kind_word, server_state_word, outcome_word, validate_state_word, assimilate_word, file_delete_word}
 use Rattle.wu_core.specs.World.{World}
 use Rattle.wu_views.specs.declared.lines.HostLine.{HostLine}
+use Rattle.wu_views.specs.declared.lines.ImportLine.{ImportLine}
 use Rattle.wu_views.specs.declared.lines.ResultLine.{ResultLine}
 use Rattle.wu_views.specs.declared.lines.Summary.{Summary}
 use Rattle.wu_views.specs.declared.lines.WorkunitLine.{WorkunitLine}
-use Rattle.wu_views.specs.Lines.{archived_lines, class_lines, host_lines, result_lines, summary_of, workunit_lines}
+use Rattle.wu_views.specs.Lines.{archived_lines, class_lines, host_lines, import_lines, result_lines, summary_of, workunit_lines}
 use Rattle.wu_machine.specs.declared.view.View.{View}
 use Rattle.wu_machine.specs.declared.view.View.TheVariants as view
 
@@ -103,6 +104,23 @@ archived_line row =
 abbrev pub class_line : HostClass → List ℕ
 class_line it = it.host ++ codes " class=" ++ decimal it.class ++ line_end
 
+-- A number in decimal, or '-' for 0.
+abbrev pub number_or_dash : ℕ → List ℕ
+number_or_dash n = if n == 0 then codes "-" else decimal n
+
+-- How many rows of a file were applied.
+abbrev pub applied_count : List ℕ → ℕ
+applied_count verdicts = count_by (λ verdict. verdict == 0) verdicts
+
+-- The line of an import: how many rows its file had, how many were applied and skipped, and the number of the first
+-- workunit that it made.
+abbrev pub import_line : ImportLine → List ℕ
+import_line it =
+    import_kind_word it.kind ++ codes " " ++ it.name ++ codes " rows=" ++ decimal (length it.verdicts)
+    ++ codes " applied=" ++ decimal (applied_count it.verdicts)
+    ++ codes " skipped=" ++ decimal (length it.verdicts - applied_count it.verdicts)
+    ++ codes " first=" ++ number_or_dash it.first_number ++ line_end
+
 abbrev pub counted : List ℕ → ℕ → List ℕ
 counted word n = word ++ codes " " ++ decimal n ++ line_end
 
@@ -130,3 +148,4 @@ view_text world view.Hosts = flat_map host_line (host_lines world)
 view_text world view.Archive = flat_map archived_line (archived_lines world)
 view_text world view.Summary = summary_lines (summary_of world)
 view_text world view.Classes = flat_map class_line (class_lines world)
+view_text world view.Imports = flat_map import_line (import_lines world)

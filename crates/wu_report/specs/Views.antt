@@ -7,7 +7,7 @@ use Rattle.wu_core.specs.declared.fault.Fault.{Fault}
 use Rattle.wu_core.specs.declared.fault.Fault.TheVariants.{Ended, NotAProject, OldSchema, Output}
 use Rattle.wu_core.specs.Classes.{AreClassed}
 use Rattle.wu_core.specs.World.{World}
-use Rattle.wu_views.specs.Lines.{AreHostsNamed}
+use Rattle.wu_views.specs.Lines.{AreHostsNamed, AreImportsStorable}
 use Rattle.wu_store.specs.Loading.{IsStoreFault}
 use Rattle.wu_core.specs.Storable.{AreStorable, IsArchiveStorable}
 use Rattle.wu_store.specs.StandsFor.{KnowsClasses}
@@ -57,6 +57,7 @@ CanBeShown world view.Hosts = AreHostsNamed world
 CanBeShown world view.Archive = IsArchiveStorable world
 CanBeShown world view.Summary = IsCountable world
 CanBeShown world view.Classes = AreClassed world.classes
+CanBeShown world view.Imports = AreImportsStorable world
 
 -- On a clean disk and without a limit on steps, no read is refused over such a world.
 abbrev pub UnrefusedWhere : {S T : Type 0} {store : Ghosts S} → (World → Type 0) → Project S store → Project S store → Result T Fault → Type 0

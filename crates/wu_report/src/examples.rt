@@ -5,8 +5,8 @@ ghost use Rattle.wu_core.specs.declared.states.ValidateState.TheVariants.{Invali
 ghost use Rattle.wu_core.specs.World.{empty_world};
 ghost use Rattle.wu_core.specs.Workunit.{fresh};
 ghost use Rattle.wu_rules.specs.Examples.{h1, out, success};
-ghost use Rattle.wu_machine.specs.declared.view.View.TheVariants.{Archive, Classes, Hosts, Results, Summary, Workunits};
-ghost use Rattle.wu_report.specs.Examples.{after_a_batch, decided_row, given_up_row, holding, job_having, archiving, first_job, three_grants, three_hosts};
+ghost use Rattle.wu_machine.specs.declared.view.View.TheVariants.{Archive, Classes, Hosts, Imports, Results, Summary, Workunits};
+ghost use Rattle.wu_report.specs.Examples.{after_a_batch, decided_row, given_up_row, holding, job_having, archiving, first_job, three_grants, three_hosts, three_imports};
 ghost use Rattle.wu_report.specs.Texts.{moment_text, view_text};
 
 /// Shows the first and the last moment, noon of a day, a leap day and the last deadline, as text.
@@ -66,6 +66,15 @@ pub fn prints_classes()
         ++ codes "h3 class=1\n" }
 {}
 
+/// Shows the lines of the imports, in order of their kinds and names.
+pub fn prints_imports()
+    // A batch has the number of its first workunit; of sends, each row was applied or skipped.
+    ensures { view_text three_imports Imports
+        ≡ codes "batch b1 rows=2 applied=2 skipped=0 first=1\n"
+        ++ codes "batch b2 rows=0 applied=0 skipped=0 first=-\n"
+        ++ codes "sent a rows=3 applied=2 skipped=1 first=-\n" }
+{}
+
 /// Shows the line of an archived workunit that was given up, and of one whose output has two bytes.
 pub fn prints_the_archive()
     // A workunit that was given up has no canonical result, and `-` for its output.
@@ -102,4 +111,6 @@ pub fn prints_nothing_of_nothing()
     ensures archive { view_text empty_world Archive ≡ [] }
     // The empty world has no line of a host with a class.
     ensures classes { view_text empty_world Classes ≡ [] }
+    // The empty world has no line of an import.
+    ensures imports { view_text empty_world Imports ≡ [] }
 {}

@@ -2,13 +2,13 @@
 
 ghost use Rattle.std.specs.Prelude.{◌≡◌, IsOkUnless};
 ghost use Rattle.wu_core.specs.declared.fault.Fault.TheVariants.{Output};
-ghost use Rattle.wu_report.specs.Texts.{bytes_text, or_dash, summary_lines};
+ghost use Rattle.wu_report.specs.Texts.{applied_count, bytes_text, number_or_dash, or_dash, summary_lines};
 ghost use Rattle.wu_report.specs.Writing.{CutsWhatFails, piece_text, WritesTo};
 
 use crate::output::{Piece, write_pieces};
 use std::io::Write;
 use wu_core::{Archived, Bytes, Fault, HostClass, Name};
-use wu_views::{HostLine, ResultLine, Summary, WorkunitLine};
+use wu_views::{HostLine, ImportLine, ResultLine, Summary, WorkunitLine};
 
 /// What a view shows on a line of its own.
 pub trait ViewLine: Drop {
@@ -191,6 +191,54 @@ impl ViewLine for HostClass {
                 Piece::Text(self.host.as_str()),
                 Piece::Text(" class="),
                 Piece::Number(u64::from(self.class)),
+                Piece::Text("\n"),
+            ],
+        )
+    }
+}
+
+/// Returns how many rows of a file were applied, by the verdict on each.
+pub fn applied_count(verdicts: &[u8]) -> usize
+    // It is the number of the verdicts that are 0.
+    ensures { result ≡ applied_count verdicts.now }
+{
+    verdicts.iter().filter(|verdict| **verdict == 0).count()
+}
+
+/// Returns the number, or `-` for 0.
+pub fn number_or_dash(number: u64) -> Piece<'static>
+    // The text is that of the number, and `-` for 0.
+    ensures { piece_text result ≡ number_or_dash number }
+{
+    if number == 0 {
+        Piece::Text("-")
+    } else {
+        Piece::Number(number)
+    }
+}
+
+impl ViewLine for ImportLine {
+    ghost use Rattle.wu_report.specs.Texts.{import_line};
+
+    ghost text = { import_line };
+
+    fn write<W: Write>(&self, out: &mut W) -> Result<(), Fault> {
+        let verdicts = self.verdicts.as_slice();
+        let applied = applied_count(verdicts);
+        write_pieces(
+            out,
+            &[
+                Piece::Text(self.kind.word()),
+                Piece::Text(" "),
+                Piece::Text(self.name.as_str()),
+                Piece::Text(" rows="),
+                Piece::Number(verdicts.len() as u64),
+                Piece::Text(" applied="),
+                Piece::Number(applied as u64),
+                Piece::Text(" skipped="),
+                Piece::Number((verdicts.len() - applied) as u64),
+                Piece::Text(" first="),
+                number_or_dash(self.first_number),
                 Piece::Text("\n"),
             ],
         )

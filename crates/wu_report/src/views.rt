@@ -14,7 +14,8 @@ use wu_core::Fault;
 use wu_machine::View;
 use wu_passes::{Project, Takes};
 use wu_views::{
-    ArchiveListing, ClassListing, HostListing, Listing, ResultListing, WorkunitListing,
+    ArchiveListing, ClassListing, HostListing, ImportListing, Listing, ResultListing,
+    WorkunitListing,
 };
 
 /// Writes each line that it takes.
@@ -49,7 +50,8 @@ where
     // with `Output` not all of them. The project is only read. Where the values can be read, and
     // steps have no limit, the fault is never `NotAProject`.
     ensures { WritesView W.Write.contents project.old project.new out.old out.new
-        (λ world. flat_map L.Item.ViewLine.text (L.Listing.lines world)) L.Listing.is_readable result }
+        (λ world. flat_map L.Item.ViewLine.text (L.Listing.lines world))
+        L.Listing.is_readable result }
 {
     let mut writer = LineWriter { out };
     project.walk::<L, LineWriter<'_, W>>(alloc, &mut writer)
@@ -92,6 +94,7 @@ fn write_view<S: Alter, W: Write>(
         View::Archive => write_listing::<S, ArchiveListing, W>(alloc, project, out),
         View::Summary => write_counts(project, out),
         View::Classes => write_listing::<S, ClassListing, W>(alloc, project, out),
+        View::Imports => write_listing::<S, ImportListing, W>(alloc, project, out),
     }
 }
 

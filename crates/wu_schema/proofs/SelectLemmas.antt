@@ -32,7 +32,7 @@ use Rattle.sqlite_resolve.specs.declared.compare.Affinity.{Affinity}
 use Rattle.sqlite_resolve.specs.declared.compare.Affinity.TheVariants as affinity
 use Rattle.sqlite_resolve.specs.Terms.{conjuncts}
 use Rattle.sqlite_resolve.specs.Expr.{lower, is_identity, combine}
-use Rattle.sqlite_resolve.specs.Order.{sorts}
+use Rattle.sqlite_resolve.specs.Order.{sorts, sorts_from}
 use Rattle.wu_schema.proofs.ExprLemmas.{column, parameter, scope, so_far, so_far_with, lower_step, column_lowers, column_lowers_with, parameter_lowers_with}
 use Rattle.wu_schema.proofs.QueryLemmas.{plain_query, alone as by_itself, viewing_is, query_step, one, from_table, output}
 use Rattle.sqlite.specs.Command.TheVariants as command
@@ -153,10 +153,6 @@ abbrev pub FitsUnder : ℕ → List Test → Type 0
 FitsUnder d [] = Unit
 FitsUnder d (p ∷ ps) = deep (suc (suc d)) ps ≡ 700
 
-abbrev pub order_cost : Option ℕ → ℕ
-order_cost None = 0
-order_cost (Some k) = 1
-
 module _ (table : Table) where
   abbrev pub how : ℕ → Collation
   how k = if is_key table.key k then Binary else (the table k).collation
@@ -182,21 +178,17 @@ module _ (table : Table) where
   where_of [] = None
   where_of (p ∷ ps) = Some (both (test_of p) ps)
 
-  abbrev pub order_of : Option ℕ → List Sort
-  order_of None = []
-  order_of (Some k) = roll-Sort (record { key = column (name_at table k); descending = false; nulls_first = None }) ∷ []
+  abbrev pub sort_of : ℕ → Sort
+  sort_of k = roll-Sort (record { key = column (name_at table k); descending = false; nulls_first = None })
 
-  abbrev pub rising : Option ℕ → List (Term × Key)
-  rising None = []
-  rising (Some k) = (col 1 (place_of table k), record { collation = how k; descending = false }) ∷ []
+  abbrev pub rises : ℕ → Term × Key
+  rises k = (col 1 (place_of table k), record { collation = how k; descending = false })
 
-  abbrev pub OrderFound : Option ℕ → Type 0
-  OrderFound None = Unit
-  OrderFound (Some k) = IsFound table (k ∷ [])
+  abbrev pub order_of : List ℕ → List Sort
+  order_of = map sort_of
 
-  abbrev pub order_last : Carried → Option ℕ → Carried
-  order_last last None = last
-  order_last last (Some k) = declared table k (the table k)
+  abbrev pub rising : List ℕ → List (Term × Key)
+  rising = map rises
 
 module _ (schema : Schema) (title : Name) (at : ℕ) (table : Table) (has : HasTable schema title at table) where
   abbrev pub bound_here : Bound
@@ -321,32 +313,40 @@ module _ (schema : Schema) (title : Name) (at : ℕ) (table : Table) (has : HasT
       → lower_to (suc (suc d)) (scope schema title at shown may_aggregate may_alias) (test_of table p) (so_far 2 b last) ≡ Ok (meets table p, so_far 2 (b - 3) nothing)
   test_lowers = test_lowers_with []
 
-  -- ---- ORDER BY a column
+  -- ---- ORDER BY columns
 
   no_alias : (name : Name) (ks : List ℕ) (from : ℕ) → position_from (λ (o : Output). o.is_alias && same_name o.name name) from (map (output_at table) ks) ≡ None
   no_alias name [] from = refl
   no_alias name (k ∷ ks) from = no_alias name ks (from + 1)
 
-  order_lowers : (ks : List ℕ) (o : Option ℕ) (b : ℕ) (last : Carried) → 1 < b → OrderFound table o
-      → sorts lower (scope schema title at (map (output_at table) ks) false true) (map (output_at table) ks) (order_of table o) (so_far 2 b last) ≡ Ok (rising table o, so_far 2 (b - order_cost o) (order_last table last o))
+  order_from : (ks os : List ℕ) (done : List (Term × Key)) (b : ℕ) (last : Carried) → length os < b → IsFound table os
+      → sorts_from lower (scope schema title at (map (output_at table) ks) false true) (map (output_at table) ks) done (order_of table os) (so_far 2 b last)
+      ≡ Ok (done ++ rising table os, so_far 2 (b - length os) (carried_after table last os))
   unfolding pipeline
-  order_lowers ks None b last some found = let less : b ≡ b - 0 = omega arith in (λ i. Ok ([], so_far 2 (less i) last))
-  order_lowers ks (Some k) b last some found =
-      let parts = found_first table k [] found in
+  order_from ks [] done b last some found = let less : b ≡ b - 0 = omega arith in (λ i. Ok (sym (append-nil done) i, so_far 2 (less i) last))
+  order_from ks (o ∷ os) done b last some found =
+      let parts = found_first table o os found in
+      let less : b - 1 - length os ≡ b - suc (length os) = omega arith in
       rw (
-        no_alias (name_at table k) ks 0,
-        column_lowers 699 schema title at table (map (output_at table) ks) false true 2 b last has (lt-ltb 1 b some) (name_at table k) k (the table k) parts.0 parts.1,
-        alone_is k,
-      ) refl
+        no_alias (name_at table o) ks 0,
+        column_lowers 699 schema title at table (map (output_at table) ks) false true 2 b last has (lt-ltb 1 b (omega (arith, some))) (name_at table o) o (the table o) parts.0 parts.1,
+        alone_is o,
+      ) (order_from ks os (done ++ rises table o ∷ []) (b - 1) (declared table o (the table o)) (omega (arith, some)) parts.2
+      ∙ (λ i. Ok (append_assoc done (rises table o ∷ []) (rising table os) i, so_far 2 (less i) (carried_after table (declared table o (the table o)) os))))
 
--- ---- a SELECT of one table: the columns it shows by their places, which columns equal which parameters, by which column it sorts, and its LIMIT
+  order_lowers : (ks os : List ℕ) (b : ℕ) (last : Carried) → length os < b → IsFound table os
+      → sorts lower (scope schema title at (map (output_at table) ks) false true) (map (output_at table) ks) (order_of table os) (so_far 2 b last) ≡ Ok (rising table os, so_far 2 (b - length os) (carried_after table last os))
+  unfolding pipeline
+  order_lowers ks os b last some found = order_from ks os [] b last some found
+
+-- ---- a SELECT of one table: the columns it shows by their places, which columns equal which parameters, by which columns it sorts, and its LIMIT
 
 pub record Asked : Type 0 where
   pub text : List ℕ
   pub parameters : List Name
   pub shown : List ℕ
   pub tests : List Test
-  pub order : Option ℕ
+  pub order : List ℕ
   pub limit : Option Expr
   pub upto : Term
 
@@ -384,9 +384,9 @@ pub record Fits (title : Name) (table : Table) (q : Asked) : Type 0 where
   pub shown : IsFound table q.shown
   pub tests : IsFound table (places q.tests)
   pub strict : AreStrict table q.tests
-  pub order : OrderFound table q.order
+  pub order : IsFound table q.order
   pub height : (d : ℕ) × FitsUnder d q.tests
-  pub few : length q.shown + where_cost q.tests < 99000
+  pub few : length q.shown + where_cost q.tests + length q.order < 99000
   pub limit : (schema : Schema) → constant_or schema (lit (Int (negsuc 0))) q.limit ≡ Ok q.upto
   pub read : first q.text ≡ Ok (parsed_of title table q)
   pub typed : IsTyped title table q []

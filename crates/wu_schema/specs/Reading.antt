@@ -12,7 +12,7 @@ use Rattle.wu_core.specs.declared.states.Outcome.{Outcome}
 use Rattle.wu_core.specs.declared.states.ServerState.{ServerState}
 use Rattle.wu_core.specs.declared.states.ValidateState.{ValidateState}
 use Rattle.wu_core.specs.declared.workunit.Instance.{Instance}
-use Rattle.wu_core.specs.Codes.{assimilate_code, file_delete_code, outcome_code, server_state_code, validate_state_code}
+use Rattle.wu_core.specs.Codes.{assimilate_code, file_delete_code, import_kind_code, outcome_code, server_state_code, validate_state_code}
 use Rattle.wu_core.specs.Mask.{error_mask_code}
 use Rattle.wu_schema.specs.Stored.{instance_row, number, number_or_null, verdict_digits}
 use Rattle.wu_schema.specs.declared.rows.Progress.{Progress}
@@ -27,7 +27,10 @@ use Rattle.wu_core.specs.Storable.{IsPlace, IsStoredInstance, IsStamped, AreMome
 abbrev pub columns : Row → ℕ → ℕ → Row
 columns row from count = map (column row) (range_with_len from count)
 
--- The columns of a mask, of states and of verdicts.
+-- The columns of a kind of import, of a mask, of states and of verdicts.
+abbrev pub kind_cell : ImportKind → Value
+kind_cell kind = number (import_kind_code kind)
+
 abbrev pub mask_cell : ErrorMask → Value
 mask_cell mask = number (error_mask_code mask)
 

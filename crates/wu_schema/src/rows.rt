@@ -11,7 +11,7 @@ ghost use Rattle.wu_core.specs.Parameters.{IsParameters};
 ghost use Rattle.wu_core.specs.World.{last_skip};
 ghost use Rattle.wu_schema.specs.Stored.{archived_cells, instance_row, number, number_or_null, text_or_null, parameter_cells, verdict_digits, workunit_row};
 ghost use Rattle.wu_schema.specs.Restoring.{Restores};
-ghost use Rattle.wu_schema.specs.Reading.{assimilate_cell, bare_instance_row, IsBareInstance, file_delete_cell, mask_cell, outcome_cell, server_state_cell, validate_state_cell, verdicts_cell, columns, progress_cells, IsProgress, IsStoredImport, stored_import_row, moment_cells, state_cells, HasMoments};
+ghost use Rattle.wu_schema.specs.Reading.{assimilate_cell, kind_cell, bare_instance_row, IsBareInstance, file_delete_cell, mask_cell, outcome_cell, server_state_cell, validate_state_cell, verdicts_cell, columns, progress_cells, IsProgress, IsStoredImport, stored_import_row, moment_cells, state_cells, HasMoments};
 ghost use Rattle.wu_core.specs.Storable.{IsOutput, IsInput, IsMoment, IsName, IsPlace, IsStoredWorkunit, AreVerdicts, IsNextNumber, IsClass, IsDeadline, IsHost, IsStoredArchived, IsStoredInstance};
 
 use crate::columns::{number_at, read_column};
@@ -433,6 +433,16 @@ pub fn bytes_at(row: &Row, at: usize) -> Result<Bytes, Fault>
 {
     let bytes: Vec<u8> = read_column(row, at)?;
     Ok(Bytes::from_vec(bytes))
+}
+
+/// Reads the kind of an import in a column.
+pub fn kind_at(row: &Row, at: usize) -> Result<ImportKind, Fault>
+    // The number of a kind of import is read as that kind, or out of memory; any other column is
+    // refused.
+    ensures { Restores kind_cell (λ _. ⊤) (column row.now at) result }
+{
+    let code: u32 = read_column(row, at)?;
+    ImportKind::from_code(code).ok_or(Fault::NotAProject)
 }
 
 /// Returns the verdict of a digit, or `None` if an import of this kind may not have it.

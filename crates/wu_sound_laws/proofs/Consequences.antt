@@ -20,6 +20,7 @@ use Rattle.wu_report.proofs.MarkLemmas.{unmarked_whole}
 use Rattle.wu_report.proofs.MarkedLines.{names_valid, view_whole}
 use Rattle.wu_machine.specs.declared.view.View.{View}
 use Rattle.wu_machine.specs.declared.view.View.TheVariants as view
+use Rattle.wu_views.specs.Lines.{AreImportsStorable}
 use Rattle.wu_drive.specs.Driving.{session_of, world_after}
 use Rattle.wu_drive.specs.declared.runs.Run.{Run}
 use Rattle.wu_sound_laws.proofs.NamedHosts.{hosts_have}
@@ -35,12 +36,16 @@ placed world sound i d low =
 
 -- ---- views
 
+imports_storable : (world : World) → IsSound world → AreImportsStorable world
+imports_storable world sound i d low = let it = sound.imports i d low in record { name = it.0; verdicts = it.1 }
+
 pub shown : (world : World) → IsSound world → world.version ≡ present_version → (v : View) → CanBeShown world v
 shown world sound present view.Workunits = sound.storable
 shown world sound present view.Results = sound.storable
 shown world sound present view.Hosts = hosts_have IsName world.grants sound.granted_to
 shown world sound present view.Archive = sound.archivable
 shown world sound present view.Classes = sound.classed
+shown world sound present view.Imports = imports_storable world sound
 shown world sound present view.Summary = record {
   numbers = record { version = omega (arith, present); next = sound.next_number };
   credit = (let few = bounded_credit world.grants (placed world sound) sound.granted_once in omega (arith, few));
@@ -53,6 +58,7 @@ names_sound world sound view.Results = names_valid world view.Results sound.stor
 names_sound world sound view.Hosts = names_valid world view.Hosts (hosts_have IsName world.grants sound.granted_to)
 names_sound world sound view.Archive = names_valid world view.Archive sound.archivable
 names_sound world sound view.Classes = names_valid world view.Classes sound.classed
+names_sound world sound view.Imports = names_valid world view.Imports (imports_storable world sound)
 names_sound world sound view.Summary = tt
 
 pub unmarked : (world : World) → IsSound world → (v : View) → NoLineBeginsWith equals_sign (view_text world v)

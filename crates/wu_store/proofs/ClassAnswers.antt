@@ -67,11 +67,11 @@ module _ (p : Part) (in_p : (version : ℕ) → IsClassedVersion version → IsI
 -- ---- the class of a workunit
 
 abbrev pub class_asked : Asked
-class_asked = record { text = codes "SELECT class FROM workunit_class WHERE workunit = ?1"; parameters = codes "?1" ∷ []; shown = 1 ∷ []; tests = (0, compare.Eq, 0) ∷ []; order = None; limit = None; upto = lit (Int (negsuc 0)) }
+class_asked = record { text = codes "SELECT class FROM workunit_class WHERE workunit = ?1"; parameters = codes "?1" ∷ []; shown = 1 ∷ []; tests = (0, compare.Eq, 0) ∷ []; order = []; limit = None; upto = lit (Int (negsuc 0)) }
 
 pub class_fits : (tree : ℕ) → Fits (codes "workunit_class") (workunit_class_at tree) class_asked
 unfolding everything
-class_fits tree = record { shown = refl; tests = refl; strict = refl; order = tt; height = (698, refl); few = omega arith; limit = λ schema. refl; read = refl; typed = refl }
+class_fits tree = record { shown = refl; tests = refl; strict = refl; order = refl; height = (698, refl); few = omega arith; limit = λ schema. refl; read = refl; typed = refl }
 
 -- as the answer shows it
 abbrev pub work_row : Workunit → Row
@@ -88,11 +88,11 @@ class_found old new n rows h world known s =
 -- ---- the class of a host
 
 abbrev pub host_asked : Asked
-host_asked = record { text = codes "SELECT class FROM host_class WHERE host = ?1"; parameters = codes "?1" ∷ []; shown = 1 ∷ []; tests = (0, compare.Eq, 0) ∷ []; order = None; limit = None; upto = lit (Int (negsuc 0)) }
+host_asked = record { text = codes "SELECT class FROM host_class WHERE host = ?1"; parameters = codes "?1" ∷ []; shown = 1 ∷ []; tests = (0, compare.Eq, 0) ∷ []; order = []; limit = None; upto = lit (Int (negsuc 0)) }
 
 pub host_fits : (tree : ℕ) → Fits (codes "host_class") (host_class_at tree) host_asked
 unfolding everything
-host_fits tree = record { shown = refl; tests = refl; strict = refl; order = tt; height = (698, refl); few = omega arith; limit = λ schema. refl; read = refl; typed = refl }
+host_fits tree = record { shown = refl; tests = refl; strict = refl; order = refl; height = (698, refl); few = omega arith; limit = λ schema. refl; read = refl; typed = refl }
 
 abbrev pub host_row : HostClass → Row
 host_row it = number it.class ∷ []

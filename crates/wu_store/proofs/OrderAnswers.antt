@@ -63,11 +63,11 @@ behind_rowid passes cells_pass pair cell_pair tested paired rows =
 -- ---- in the order of one column
 
 module _ (tree : ℕ) (test shows : List Term) (place : ℕ) (falls : Bool) (limit : Term) (params : Row) where
-  abbrev order : List (Term × Key)
-  order = (col 1 place, record { collation = Binary; descending = falls }) ∷ []
+  abbrev pub by_column : List (Term × Key)
+  by_column = (col 1 place, record { collation = Binary; descending = falls }) ∷ []
 
   abbrev pub sorted : Query
-  sorted = ordered tree test shows params order limit
+  sorted = ordered tree test shows params by_column limit
 
   abbrev shown : Row → Row
   shown r = eval_all shows (params ∷ r ∷ [])
@@ -79,12 +79,12 @@ module _ (tree : ℕ) (test shows : List Term) (place : ℕ) (falls : Bool) (lim
   abbrev pub passing : Row → Bool
   passing = passing_row tree test shows params
 
-  same_cmp : in_order falls ≡ output_cmp sorted
+  pub same_cmp : in_order falls ≡ output_cmp sorted
   same_cmp = λ i a b. sym (then-Equal (in_order falls a b)) i
 
   pub sure_sorted : (db : Database) (rows : List Row) (os : List Output) → nat_le (2 ^ 31) tree ≡ false → IsAscending (λ a b. in_order falls a b ≡ Less) os → IsPermutation os (map pair (filter passing (db.trees tree)))
       → IsSureAnswer sorted (overlay db.trees []) params rows → rows ≡ page sorted params (map (λ (o : Output). o.1) os)
-  sure_sorted db rows os low up same h = sure_ordered tree test shows params order limit db rows os low (subst (λ c. IsAscending (λ a b. c a b ≡ Less) os) same_cmp up) same h
+  sure_sorted db rows os low up same h = sure_ordered tree test shows params by_column limit db rows os low (subst (λ c. IsAscending (λ a b. c a b ≡ Less) os) same_cmp up) same h
 
 -- ---- in the order of the key
 

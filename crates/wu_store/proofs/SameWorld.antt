@@ -98,10 +98,10 @@ delete_again : (s : FileDelete) → delete_of (file_delete_code s) ≡ s
 delete_again file_delete.Init = refl
 delete_again _ = refl
 
-abbrev kind_of : ℕ → ImportKind
+abbrev pub kind_of : ℕ → ImportKind
 kind_of n = if n == 1 then kind.Batch else if n == 2 then kind.Sent else if n == 3 then kind.Reported else kind.Classes
 
-kind_again : (s : ImportKind) → kind_of (import_kind_code s) ≡ s
+pub kind_again : (s : ImportKind) → kind_of (import_kind_code s) ≡ s
 kind_again kind.Batch = refl
 kind_again _ = refl
 

@@ -22,11 +22,11 @@ instance_columns = codes "server_state, outcome, validate_state, file_delete, ho
 -- ---- the import of a kind and a name
 
 abbrev pub import_asked : Asked
-import_asked = record { text = codes "SELECT template, content, first_number, verdicts FROM import WHERE kind = ?1 AND name = ?2"; parameters = codes "?1" ∷ codes "?2" ∷ []; shown = 2 ∷ 3 ∷ 4 ∷ 5 ∷ []; tests = (0, compare.Eq, 0) ∷ (1, compare.Eq, 1) ∷ []; order = None; limit = None; upto = lit (Int (negsuc 0)) }
+import_asked = record { text = codes "SELECT template, content, first_number, verdicts FROM import WHERE kind = ?1 AND name = ?2"; parameters = codes "?1" ∷ codes "?2" ∷ []; shown = 2 ∷ 3 ∷ 4 ∷ 5 ∷ []; tests = (0, compare.Eq, 0) ∷ (1, compare.Eq, 1) ∷ []; order = []; limit = None; upto = lit (Int (negsuc 0)) }
 
 pub import_fits : (tree : ℕ) → Fits (codes "import") (import_at tree) import_asked
 unfolding everything
-import_fits tree = record { shown = refl; tests = refl; strict = refl; order = tt; height = (697, refl); few = omega arith; limit = λ schema. refl; read = refl; typed = refl }
+import_fits tree = record { shown = refl; tests = refl; strict = refl; order = refl; height = (697, refl); few = omega arith; limit = λ schema. refl; read = refl; typed = refl }
 
 abbrev pub import_tests : List Term
 import_tests = same (col 1 1) (col 0 0) ∷ same (col 1 2) (col 0 1) ∷ []
@@ -37,11 +37,11 @@ import_shows = col 1 3 ∷ col 1 4 ∷ col 1 5 ∷ col 1 6 ∷ []
 -- ---- the workunit of a name
 
 abbrev pub workunit_asked : Asked
-workunit_asked = record { text = codes "SELECT number FROM workunit WHERE name = ?1"; parameters = codes "?1" ∷ []; shown = 0 ∷ []; tests = (1, compare.Eq, 0) ∷ []; order = None; limit = None; upto = lit (Int (negsuc 0)) }
+workunit_asked = record { text = codes "SELECT number FROM workunit WHERE name = ?1"; parameters = codes "?1" ∷ []; shown = 0 ∷ []; tests = (1, compare.Eq, 0) ∷ []; order = []; limit = None; upto = lit (Int (negsuc 0)) }
 
 pub workunit_fits : (tree : ℕ) → Fits (codes "workunit") (workunit_at tree) workunit_asked
 unfolding everything
-workunit_fits tree = record { shown = refl; tests = refl; strict = refl; order = tt; height = (698, refl); few = omega arith; limit = λ schema. refl; read = refl; typed = refl }
+workunit_fits tree = record { shown = refl; tests = refl; strict = refl; order = refl; height = (698, refl); few = omega arith; limit = λ schema. refl; read = refl; typed = refl }
 
 abbrev pub workunit_tests : List Term
 workunit_tests = same (col 1 2) (col 0 0) ∷ []
@@ -49,20 +49,20 @@ workunit_tests = same (col 1 2) (col 0 0) ∷ []
 -- ---- the row of the workunit of a name
 
 abbrev pub named_asked : Asked
-named_asked = record { text = codes "SELECT " ++ workunit_columns ++ codes " FROM workunit WHERE name = ?1"; parameters = codes "?1" ∷ []; shown = workunit_shown; tests = (1, compare.Eq, 0) ∷ []; order = None; limit = None; upto = lit (Int (negsuc 0)) }
+named_asked = record { text = codes "SELECT " ++ workunit_columns ++ codes " FROM workunit WHERE name = ?1"; parameters = codes "?1" ∷ []; shown = workunit_shown; tests = (1, compare.Eq, 0) ∷ []; order = []; limit = None; upto = lit (Int (negsuc 0)) }
 
 pub named_fits : (tree : ℕ) → Fits (codes "workunit") (workunit_at tree) named_asked
 unfolding everything
-named_fits tree = record { shown = refl; tests = refl; strict = refl; order = tt; height = (698, refl); few = omega arith; limit = λ schema. refl; read = refl; typed = refl }
+named_fits tree = record { shown = refl; tests = refl; strict = refl; order = refl; height = (698, refl); few = omega arith; limit = λ schema. refl; read = refl; typed = refl }
 
 -- ---- the row of the workunit of a number
 
 abbrev pub numbered_asked : Asked
-numbered_asked = record { text = codes "SELECT " ++ workunit_columns ++ codes " FROM workunit WHERE number = ?1"; parameters = codes "?1" ∷ []; shown = workunit_shown; tests = (0, compare.Eq, 0) ∷ []; order = None; limit = None; upto = lit (Int (negsuc 0)) }
+numbered_asked = record { text = codes "SELECT " ++ workunit_columns ++ codes " FROM workunit WHERE number = ?1"; parameters = codes "?1" ∷ []; shown = workunit_shown; tests = (0, compare.Eq, 0) ∷ []; order = []; limit = None; upto = lit (Int (negsuc 0)) }
 
 pub numbered_fits : (tree : ℕ) → Fits (codes "workunit") (workunit_at tree) numbered_asked
 unfolding everything
-numbered_fits tree = record { shown = refl; tests = refl; strict = refl; order = tt; height = (698, refl); few = omega arith; limit = λ schema. refl; read = refl; typed = refl }
+numbered_fits tree = record { shown = refl; tests = refl; strict = refl; order = refl; height = (698, refl); few = omega arith; limit = λ schema. refl; read = refl; typed = refl }
 
 abbrev pub numbered_tests : List Term
 numbered_tests = same (col 1 0) (col 0 0) ∷ []
@@ -70,20 +70,20 @@ numbered_tests = same (col 1 0) (col 0 0) ∷ []
 -- ---- the archived workunit of a name
 
 abbrev pub archived_asked : Asked
-archived_asked = record { text = codes "SELECT number FROM archived WHERE name = ?1"; parameters = codes "?1" ∷ []; shown = 1 ∷ []; tests = (2, compare.Eq, 0) ∷ []; order = None; limit = None; upto = lit (Int (negsuc 0)) }
+archived_asked = record { text = codes "SELECT number FROM archived WHERE name = ?1"; parameters = codes "?1" ∷ []; shown = 1 ∷ []; tests = (2, compare.Eq, 0) ∷ []; order = []; limit = None; upto = lit (Int (negsuc 0)) }
 
 pub archived_fits : (tree : ℕ) → Fits (codes "archived") (archived_at tree) archived_asked
 unfolding everything
-archived_fits tree = record { shown = refl; tests = refl; strict = refl; order = tt; height = (698, refl); few = omega arith; limit = λ schema. refl; read = refl; typed = refl }
+archived_fits tree = record { shown = refl; tests = refl; strict = refl; order = refl; height = (698, refl); few = omega arith; limit = λ schema. refl; read = refl; typed = refl }
 
 -- ---- the next number
 
 abbrev pub next_asked : Asked
-next_asked = record { text = codes "SELECT next_number FROM project"; parameters = []; shown = 2 ∷ []; tests = []; order = None; limit = None; upto = lit (Int (negsuc 0)) }
+next_asked = record { text = codes "SELECT next_number FROM project"; parameters = []; shown = 2 ∷ []; tests = []; order = []; limit = None; upto = lit (Int (negsuc 0)) }
 
 pub next_fits : (tree : ℕ) → Fits (codes "project") (project_at tree) next_asked
 unfolding everything
-next_fits tree = record { shown = refl; tests = refl; strict = refl; order = tt; height = (0, tt); few = omega arith; limit = λ schema. refl; read = refl; typed = refl }
+next_fits tree = record { shown = refl; tests = refl; strict = refl; order = refl; height = (0, tt); few = omega arith; limit = λ schema. refl; read = refl; typed = refl }
 
 abbrev pub next_shows : List Term
 next_shows = col 1 3 ∷ []
@@ -91,7 +91,7 @@ next_shows = col 1 3 ∷ []
 -- ---- all workunits, in order of number
 
 abbrev pub all_asked : Asked
-all_asked = record { text = codes "SELECT " ++ workunit_columns ++ codes " FROM workunit ORDER BY number"; parameters = []; shown = workunit_shown; tests = []; order = Some 0; limit = None; upto = lit (Int (negsuc 0)) }
+all_asked = record { text = codes "SELECT " ++ workunit_columns ++ codes " FROM workunit ORDER BY number"; parameters = []; shown = workunit_shown; tests = []; order = 0 ∷ []; limit = None; upto = lit (Int (negsuc 0)) }
 
 pub all_fits : (tree : ℕ) → Fits (codes "workunit") (workunit_at tree) all_asked
 unfolding everything
@@ -103,7 +103,7 @@ all_shows = col 1 0 ∷ col 1 2 ∷ col 1 3 ∷ col 1 4 ∷ col 1 5 ∷ col 1 6 
 -- ---- the first workunit above a number
 
 abbrev pub above_asked : Asked
-above_asked = record { text = codes "SELECT " ++ workunit_columns ++ codes " FROM workunit WHERE number > ?1 ORDER BY number LIMIT 1"; parameters = codes "?1" ∷ []; shown = workunit_shown; tests = (0, compare.Gt, 0) ∷ []; order = Some 0; limit = Some (roll-Expr (Expr-F.Integer (codes "1"))); upto = lit (Int (pos 1)) }
+above_asked = record { text = codes "SELECT " ++ workunit_columns ++ codes " FROM workunit WHERE number > ?1 ORDER BY number LIMIT 1"; parameters = codes "?1" ∷ []; shown = workunit_shown; tests = (0, compare.Gt, 0) ∷ []; order = 0 ∷ []; limit = Some (roll-Expr (Expr-F.Integer (codes "1"))); upto = lit (Int (pos 1)) }
 
 pub above_fits : (tree : ℕ) → Fits (codes "workunit") (workunit_at tree) above_asked
 unfolding everything
@@ -115,7 +115,7 @@ above_tests = more (col 1 0) (col 0 0) ∷ []
 -- ---- the instances of a workunit, in order of their numbers
 
 abbrev pub instances_asked : Asked
-instances_asked = record { text = codes "SELECT " ++ instance_columns ++ codes " FROM result WHERE workunit = ?1 ORDER BY n"; parameters = codes "?1" ∷ []; shown = 2 ∷ 3 ∷ 4 ∷ 5 ∷ 6 ∷ 7 ∷ 8 ∷ 9 ∷ 10 ∷ []; tests = (0, compare.Eq, 0) ∷ []; order = Some 1; limit = None; upto = lit (Int (negsuc 0)) }
+instances_asked = record { text = codes "SELECT " ++ instance_columns ++ codes " FROM result WHERE workunit = ?1 ORDER BY n"; parameters = codes "?1" ∷ []; shown = 2 ∷ 3 ∷ 4 ∷ 5 ∷ 6 ∷ 7 ∷ 8 ∷ 9 ∷ 10 ∷ []; tests = (0, compare.Eq, 0) ∷ []; order = 1 ∷ []; limit = None; upto = lit (Int (negsuc 0)) }
 
 pub instances_fits : (tree : ℕ) → Fits (codes "result") (result_at tree) instances_asked
 unfolding everything
@@ -131,7 +131,7 @@ instances_shows = col 1 3 ∷ col 1 4 ∷ col 1 5 ∷ col 1 6 ∷ col 1 7 ∷ co
 
 -- the first so many numbers in the queue, by tests of their marks, and with the limit's place among what is given
 abbrev pub marked_asked : List ℕ → List Name → List Test → ℕ → Asked
-marked_asked text parameters tests place = record { text = text; parameters = parameters; shown = 0 ∷ []; tests = tests; order = Some 0; limit = Some (parameter (suc place)); upto = col 0 place }
+marked_asked text parameters tests place = record { text = text; parameters = parameters; shown = 0 ∷ []; tests = tests; order = 0 ∷ []; limit = Some (parameter (suc place)); upto = col 0 place }
 
 -- how the mark for a pass is tested: it is set, or a moment up to one
 abbrev pub mark_tests : Pass → List Test

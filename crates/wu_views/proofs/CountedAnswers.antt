@@ -52,11 +52,11 @@ module _ (old new : State) (world : World) (s : Refines old.now world) (rows : L
 -- ---- the states of instances
 
 abbrev pub states_asked : Asked
-states_asked = record { text = codes "SELECT server_state FROM result"; parameters = []; shown = 2 ∷ []; tests = []; order = None; limit = None; upto = lit (Int (negsuc 0)) }
+states_asked = record { text = codes "SELECT server_state FROM result"; parameters = []; shown = 2 ∷ []; tests = []; order = []; limit = None; upto = lit (Int (negsuc 0)) }
 
 pub states_fit : (tree : ℕ) → Fits (codes "result") (result_at tree) states_asked
 unfolding everything
-states_fit tree = record { shown = refl; tests = refl; strict = refl; order = tt; height = (0, tt); few = omega arith; limit = λ schema. refl; read = refl; typed = refl }
+states_fit tree = record { shown = refl; tests = refl; strict = refl; order = refl; height = (0, tt); few = omega arith; limit = λ schema. refl; read = refl; typed = refl }
 
 pub states_question : IsQuestion states_asked.text []
 states_question = question Instances (λ _. tt) states_asked states_fit [] refl (λ _. refl)
@@ -88,11 +88,11 @@ states_of (w ∷ ws) =
 -- ---- the credit of grants
 
 abbrev pub credit_asked : Asked
-credit_asked = record { text = codes "SELECT credit FROM credit_grant"; parameters = []; shown = 4 ∷ []; tests = []; order = None; limit = None; upto = lit (Int (negsuc 0)) }
+credit_asked = record { text = codes "SELECT credit FROM credit_grant"; parameters = []; shown = 4 ∷ []; tests = []; order = []; limit = None; upto = lit (Int (negsuc 0)) }
 
 pub credit_fits : (tree : ℕ) → Fits (codes "credit_grant") (grant_at tree) credit_asked
 unfolding everything
-credit_fits tree = record { shown = refl; tests = refl; strict = refl; order = tt; height = (0, tt); few = omega arith; limit = λ schema. refl; read = refl; typed = refl }
+credit_fits tree = record { shown = refl; tests = refl; strict = refl; order = refl; height = (0, tt); few = omega arith; limit = λ schema. refl; read = refl; typed = refl }
 
 pub credit_question : IsQuestion credit_asked.text []
 credit_question = question Grants (λ _. tt) credit_asked credit_fits [] refl (λ _. refl)

@@ -9,6 +9,7 @@ mod CountedAnswers
 mod GivenLemmas
 mod JoinAnswers
 mod ListLemmas
+pub mod ImportLemmas
 mod ListAnswers
 mod ListLines
 mod WalkLemmas

@@ -7,6 +7,7 @@ use Rattle.wu_core.specs.declared.states.Assimilate.{Assimilate}
 use Rattle.wu_core.specs.declared.states.Assimilate.TheVariants as assimilate
 use Rattle.wu_core.specs.declared.states.FileDelete.{FileDelete}
 use Rattle.wu_core.specs.declared.states.FileDelete.TheVariants as file_delete
+use Rattle.wu_core.specs.declared.import.ImportKind.{ImportKind}
 use Rattle.wu_core.specs.declared.workunit.Archived.{Archived}
 use Rattle.wu_core.specs.declared.workunit.HostClass.{HostClass}
 use Rattle.wu_core.specs.declared.mask.ErrorMask.{ErrorMask}
@@ -14,17 +15,18 @@ use Rattle.wu_core.proofs.MaskLemmas.{flags_of}
 use Rattle.wu_core.specs.Codes.{assimilate_code, file_delete_code}
 use Rattle.wu_core.specs.Mask.{error_mask_code}
 use Rattle.wu_core.specs.Parameters.{IsParameters, Parameters}
-use Rattle.wu_core.specs.Storable.{IsClass, IsName}
+use Rattle.wu_core.specs.Storable.{AreVerdicts, IsClass, IsName}
 use Rattle.wu_core.specs.declared.fault.Fault.{Fault}
 use Rattle.wu_core.specs.declared.workunit.Instance.{Instance}
 use Rattle.wu_schema.specs.Stored.{archived_cells, class_cells, number, number_or_null, parameter_cells}
 use Rattle.wu_schema.specs.Restoring.{Restores}
-use Rattle.wu_schema.specs.Reading.{IsBareInstance, IsProgress, bare_instance_row, columns, progress_cells}
+use Rattle.wu_schema.specs.Reading.{IsBareInstance, IsProgress, bare_instance_row, columns, kind_cell, progress_cells, verdicts_cell}
 use Rattle.wu_schema.specs.declared.rows.Progress.{Progress}
-use Rattle.wu_schema.proofs.ReadingLemmas.{is_bare, not_ok, whole_row}
-use Rattle.wu_store.proofs.SameWorld.{mask_again, maybe_again, read_blob, read_maybe, read_number, read_text, same_instances}
-use Rattle.wu_views.specs.Lines.{IsInputLength, IsOutputLength, IsStoredHost, IsStoredLine, IsStoredResult, bare_instance_of, host_row, line_row, result_line_of, result_line_row}
+use Rattle.wu_schema.proofs.ReadingLemmas.{is_bare, not_ok, same_verdicts, whole_row}
+use Rattle.wu_store.proofs.SameWorld.{kind_again, kind_of, mask_again, maybe_again, read_blob, read_maybe, read_number, read_text, same_instances}
+use Rattle.wu_views.specs.Lines.{IsInputLength, IsOutputLength, IsStoredHost, IsStoredImportLine, IsStoredLine, IsStoredResult, bare_instance_of, host_row, import_row, line_row, result_line_of, result_line_row}
 use Rattle.wu_views.specs.declared.lines.HostLine.{HostLine}
+use Rattle.wu_views.specs.declared.lines.ImportLine.{ImportLine}
 use Rattle.wu_views.specs.declared.lines.ResultLine.{ResultLine}
 use Rattle.wu_views.specs.declared.lines.WorkunitLine.{WorkunitLine}
 
@@ -125,6 +127,12 @@ same_class a b is =
     let class : a.class ≡ b.class = cc in
     (λ i. record { host = host i; class = class i })
 
+pub same_import : (a b : ImportLine) → import_row a ≡ import_row b → a ≡ b
+same_import a b is =
+    let kind = sym (kind_again a.kind) ∙ ap (λ r. kind_of (read_number (column r 0))) is ∙ kind_again b.kind in
+    let verdicts = same_verdicts a.verdicts b.verdicts (ap (λ r. read_text (column r 3)) is) in
+    (λ i. record { kind = kind i; name = read_text (column (is i) 1); first_number = read_number (column (is i) 2); verdicts = verdicts i })
+
 -- ---- a row whose columns are read
 
 -- one with columns that can't be read is stored of nothing, whatever hands the fault on
@@ -204,3 +212,19 @@ module _ (row : Row) (name : List ℕ) (total grants : ℕ) where
     where
       stored : row ≡ host_row read_host
       stored = sym (whole_row 3 row long) ∙ (λ i. name_is.value.0 i ∷ total_is.value.0 i ∷ grants_are.value.0 i ∷ [])
+
+-- and four those of this import
+module _ (row : Row) (kind : ImportKind) (name : List ℕ) (first : ℕ) (verdicts : List ℕ) where
+  abbrev read_import : ImportLine
+  read_import = record { kind = kind; name = name; first_number = first; verdicts = verdicts }
+
+  pub import_line_read : length row ≡ 4 → Restores kind_cell (λ _. ⊤) (column row 0) (Ok kind) → Restores Text IsName (column row 1) (Ok name) → Restores number (λ _. ⊤) (column row 2) (Ok first)
+      → Restores verdicts_cell (AreVerdicts kind) (column row 3) (Ok verdicts) → Restores import_row IsStoredImportLine row (Ok read_import)
+  import_line_read long kind_is name_is first_is verdicts_are = record {
+    value = (stored, record { name = name_is.value.1; verdicts = verdicts_are.value.1 });
+    found = λ it is same. inl (ap (λ it. Ok it) (same_import read_import it (sym stored ∙ same)));
+    refused = tt;
+  }
+    where
+      stored : row ≡ import_row read_import
+      stored = sym (whole_row 4 row long) ∙ (λ i. kind_is.value.0 i ∷ name_is.value.0 i ∷ first_is.value.0 i ∷ verdicts_are.value.0 i ∷ [])

@@ -1,19 +1,23 @@
--- What the SELECTs of the five views answer of the world that the tables stand for.
-use Rattle.wu_schema.proofs.Words.{Database, Int, IsAscending, IsPermutation, IsPermutation-map, Less, List, None, Output, Refines, Row, Shown, Some, State, Term, World, [], AllByRecursion, ap, archived_at, arith, class_cells, codes, col, column, drop, eval_all, everything, false, filter, host_at, host_class_at, hosts_of, lit, map, map-map, nat_le, negsuc, refl, stored_archived, subst, sym, true, ℕ, ◌^◌, ◌∙◌, ◌∷◌, ◌≡◌}
+-- What the SELECTs of the views answer of the world that the tables stand for.
+use Rattle.wu_schema.proofs.Words.{Binary, Database, Equal, Import, Int, IsAscending, IsPermutation, IsPermutation-map, IsPermutation-trans, Less, List, None, Ordering, Output, Refines, Row, Shown, State, Term, Text, World, [], AllByRecursion, ap, archived_at, arith, class_cells, codes, col, column, drop, eval_all, everything, false, filter, host_at, host_class_at, hosts_of, import_at, import_cells, import_kind_code, lit, map, map-map, nat_le, negsuc, refl, stored_archived, subst, sym, true, value_cmp, ℕ, ◌^◌, ◌∙◌, ◌∷◌, ◌≡◌}
+use Rattle.std.specs.Ordering.{nat_cmp, ordering_then}
 use Rattle.sqlite.specs.Program.{overlay}
-use Rattle.sqlite.specs.Query.{IsSureAnswer}
-use Rattle.sqlite_value.proofs.OrderLemmas.{value_cmp-Text}
+use Rattle.sqlite.specs.Query.{IsSureAnswer, output_cmp}
+use Rattle.sqlite_value.proofs.OrderLemmas.{then-Equal, value_cmp-Text}
+use Rattle.sqlite_value.specs.declared.keys.Key.{Key}
 use Rattle.wu_core.specs.declared.workunit.HostClass.{HostClass}
 use Rattle.wu_core.proofs.HostLemmas.{once, pairs_ascend}
-use Rattle.wu_schema.proofs.Parts.{Archive, HostClasses, Hosts}
+use Rattle.wu_schema.proofs.Parts.{Archive, HostClasses, Hosts, Imports}
 use Rattle.wu_schema.proofs.RowLemmas.{no_test}
 use Rattle.wu_schema.proofs.SelectLemmas.{Asked, Fits}
 use Rattle.wu_schema.specs.Refines.{host_of}
 use Rattle.wu_store.specs.StandsFor.{KnowsClasses}
 use Rattle.wu_store.proofs.ClassAnswers.{Before, rising}
-use Rattle.wu_store.proofs.OrderAnswers.{behind_rowid, by_key, pair, sorted, sure_in_order, sure_sorted}
+use Rattle.wu_store.proofs.OrderAnswers.{behind_rowid, by_column, by_key, ordered, ordered_pair, pair, same_cmp, sorted, sure_in_order, sure_ordered}
 use Rattle.wu_store.proofs.ReadAnswers.{asked_answers}
-use Rattle.wu_views.specs.Listings.{all_results_shown, archive_of, placed_archived_row, workunit_shown}
+use Rattle.wu_views.specs.Imports.{import_order, imports_in_order}
+use Rattle.wu_views.specs.Listings.{all_results_shown, archive_of, import_shown, placed_archived_row, workunit_shown}
+use Rattle.wu_views.proofs.ImportLemmas.{codes_cmp, in_order_rises, in_order_same, Precedes}
 use Rattle.wu_views.proofs.JoinAnswers as joins
 use Rattle.wu_views.proofs.JoinTexts.{results_here, results_question, results_text, workunits_here, workunits_question, workunits_text}
 use Rattle.wu_views.proofs.ListLemmas.{AnswersAll, answers_all}
@@ -23,26 +27,37 @@ use Rattle.wu_views.proofs.ViewAnswers.{host_pair, host_shows, names_rise, names
 abbrev no_limit : Term
 no_limit = lit (Int (negsuc 0))
 
--- a whole table whose rowids SQLite picks, in the order of a column that rises
-module _ {X : Type 0} (tree : ℕ) (shows : List Term) (place : ℕ) (cells : X → Row) (cell_pair : Row → Output) (xs : List X) where
-  abbrev row_pair : Row → Output
-  row_pair = pair tree [] shows place false no_limit []
+-- a whole table whose rowids SQLite picks, in an order in which what is shown of its rows rises
+module _ {X : Type 0} (tree : ℕ) (shows : List Term) (order : List (Term × Key)) (cells : X → Row) (cell_pair : Row → Output) (xs : List X) where
+  abbrev row_ordered : Row → Output
+  row_ordered = ordered_pair tree [] shows [] order no_limit
 
   abbrev cells_pair : X → Output
   cells_pair x = cell_pair (cells x)
 
-  pub all_sorted : (db : Database) (rows : List Row) → nat_le (2 ^ 31) tree ≡ false → ((r : Row) → row_pair r ≡ cell_pair (drop 1 r)) → IsAscending (λ a b. by_key a b ≡ Less) (map cells_pair xs) → IsPermutation (map cells xs) (map (drop 1) (db.trees tree))
-      → IsSureAnswer (sorted tree [] shows place false no_limit []) (overlay db.trees []) [] rows → rows ≡ map (λ (o : Output). o.1) (map cells_pair xs)
-  all_sorted db rows low pair_is up same h =
+  all_ordered : (db : Database) (rows : List Row) → nat_le (2 ^ 31) tree ≡ false → ((r : Row) → row_ordered r ≡ cell_pair (drop 1 r)) → IsAscending (λ a b. output_cmp (ordered tree [] shows [] order no_limit) a b ≡ Less) (map cells_pair xs)
+      → IsPermutation (map cells xs) (map (drop 1) (db.trees tree)) → IsSureAnswer (ordered tree [] shows [] order no_limit) (overlay db.trees []) [] rows → rows ≡ map (λ (o : Output). o.1) (map cells_pair xs)
+  all_ordered db rows low pair_is up same h =
       let stored = db.trees tree in
       let those : IsPermutation (map cells_pair xs) (map cell_pair (map (drop 1) stored)) = subst (λ os. IsPermutation os (map cell_pair (map (drop 1) stored))) (map-map cell_pair cells xs) (IsPermutation-map cell_pair _ _ same) in
-      let seen : map row_pair (filter (λ r. true) stored) ≡ map cell_pair (map (drop 1) stored) = behind_rowid (λ r. true) (λ r. true) row_pair cell_pair (λ r. refl) pair_is stored ∙ ap (map cell_pair) (no_test (map (drop 1) stored)) in
-      sure_sorted tree [] shows place false no_limit [] db rows (map cells_pair xs) low up (subst (IsPermutation (map cells_pair xs)) (sym seen) those) h
+      let seen : map row_ordered (filter (λ r. true) stored) ≡ map cell_pair (map (drop 1) stored) = behind_rowid (λ r. true) (λ r. true) row_ordered cell_pair (λ r. refl) pair_is stored ∙ ap (map cell_pair) (no_test (map (drop 1) stored)) in
+      sure_ordered tree [] shows [] order no_limit db rows (map cells_pair xs) low up (subst (IsPermutation (map cells_pair xs)) (sym seen) those) h
+
+-- in the order of a column that rises
+module _ {X : Type 0} (tree : ℕ) (shows : List Term) (place : ℕ) (cells : X → Row) (cell_pair : Row → Output) (xs : List X) where
+  abbrev row_pair : Row → Output
+  row_pair = pair tree [] shows place false no_limit []
+
+  pub all_sorted : (db : Database) (rows : List Row) → nat_le (2 ^ 31) tree ≡ false → ((r : Row) → row_pair r ≡ cell_pair (drop 1 r)) → IsAscending (λ a b. by_key a b ≡ Less) (map (λ x. cell_pair (cells x)) xs) → IsPermutation (map cells xs) (map (drop 1) (db.trees tree))
+      → IsSureAnswer (sorted tree [] shows place false no_limit []) (overlay db.trees []) [] rows → rows ≡ map (λ (o : Output). o.1) (map (λ x. cell_pair (cells x)) xs)
+  all_sorted db rows low pair_is up same h =
+      all_ordered tree shows (by_column tree [] shows place false no_limit []) cells cell_pair xs db rows low pair_is
+      (subst (λ c. IsAscending (λ a b. c a b ≡ Less) (map (λ x. cell_pair (cells x)) xs)) (same_cmp tree [] shows place false no_limit []) up) same h
 
 -- ---- hosts, in order of their names
 
 abbrev pub hosts_asked : Asked
-hosts_asked = record { text = codes "SELECT name, total, grants FROM host ORDER BY name"; parameters = []; shown = 0 ∷ 1 ∷ 2 ∷ []; tests = []; order = Some 0; limit = None; upto = lit (Int (negsuc 0)) }
+hosts_asked = record { text = codes "SELECT name, total, grants FROM host ORDER BY name"; parameters = []; shown = 0 ∷ 1 ∷ 2 ∷ []; tests = []; order = 0 ∷ []; limit = None; upto = lit (Int (negsuc 0)) }
 
 hosts_fits : (tree : ℕ) → Fits (codes "host") (host_at tree) hosts_asked
 unfolding everything
@@ -68,7 +83,7 @@ hosts_answer = answers_all Hosts (λ version known. tt) hosts_asked hosts_fits r
 -- ---- the archive, in order of archiving
 
 abbrev pub archive_asked : Asked
-archive_asked = record { text = codes "SELECT seq, number, name, error_mask, canonical, output, done_at FROM archived ORDER BY seq"; parameters = []; shown = 0 ∷ 1 ∷ 2 ∷ 3 ∷ 4 ∷ 5 ∷ 6 ∷ []; tests = []; order = Some 0; limit = None; upto = lit (Int (negsuc 0)) }
+archive_asked = record { text = codes "SELECT seq, number, name, error_mask, canonical, output, done_at FROM archived ORDER BY seq"; parameters = []; shown = 0 ∷ 1 ∷ 2 ∷ 3 ∷ 4 ∷ 5 ∷ 6 ∷ []; tests = []; order = 0 ∷ []; limit = None; upto = lit (Int (negsuc 0)) }
 
 archive_fits : (tree : ℕ) → Fits (codes "archived") (archived_at tree) archive_asked
 unfolding everything
@@ -94,7 +109,7 @@ archive_answer = answers_all Archive (λ version known. tt) archive_asked archiv
 -- ---- the classes of hosts, in order of their names
 
 abbrev pub classes_asked : Asked
-classes_asked = record { text = codes "SELECT host, class FROM host_class ORDER BY host"; parameters = []; shown = 0 ∷ 1 ∷ []; tests = []; order = Some 0; limit = None; upto = lit (Int (negsuc 0)) }
+classes_asked = record { text = codes "SELECT host, class FROM host_class ORDER BY host"; parameters = []; shown = 0 ∷ 1 ∷ []; tests = []; order = 0 ∷ []; limit = None; upto = lit (Int (negsuc 0)) }
 
 classes_fits : (tree : ℕ) → Fits (codes "host_class") (host_class_at tree) classes_asked
 unfolding everything
@@ -133,6 +148,64 @@ classes_found old new rows h world known s =
 
 pub classes_answer : AnswersAll classes_asked.text classes_shown
 classes_answer = answers_all HostClasses (λ version known. known) classes_asked classes_fits refl (λ tree. refl) classes_shown classes_found
+
+-- ---- imports, in order of their kinds and names
+
+abbrev pub imports_asked : Asked
+imports_asked = record { text = codes "SELECT kind, name, first_number, verdicts FROM import ORDER BY kind, name"; parameters = []; shown = 0 ∷ 1 ∷ 4 ∷ 5 ∷ []; tests = []; order = 0 ∷ 1 ∷ []; limit = None; upto = lit (Int (negsuc 0)) }
+
+imports_fits : (tree : ℕ) → Fits (codes "import") (import_at tree) imports_asked
+unfolding everything
+imports_fits tree = record { shown = refl; tests = refl; strict = refl; order = refl; height = (0, tt); few = omega arith; limit = λ schema. refl; read = refl; typed = refl }
+
+abbrev import_shows : List Term
+import_shows = col 1 1 ∷ col 1 2 ∷ col 1 5 ∷ col 1 6 ∷ []
+
+abbrev import_sorts : List (Term × Key)
+import_sorts = (col 1 1, record { collation = Binary; descending = false }) ∷ (col 1 2, record { collation = Binary; descending = false }) ∷ []
+
+-- of the cells of an import its kind and its name, and what is shown
+abbrev import_pair : Row → Output
+import_pair c = (column c 0 ∷ column c 1 ∷ [], column c 0 ∷ column c 1 ∷ column c 4 ∷ column c 5 ∷ [])
+
+abbrev pair_of : Import → Output
+pair_of import = import_pair (import_cells import)
+
+abbrev cmp_of : ℕ → Output → Output → Ordering
+cmp_of tree = output_cmp (ordered tree [] import_shows [] import_sorts no_limit)
+
+-- rows stand as their imports
+cmp_is : (tree : ℕ) (a b : Import) → cmp_of tree (pair_of a) (pair_of b) ≡ import_order a b
+cmp_is tree a b =
+    ap (λ o. ordering_then o (ordering_then (value_cmp (Text a.name) (Text b.name)) Equal)) (codes_cmp (import_kind_code a.kind) (import_kind_code b.kind))
+    ∙ ap (ordering_then (nat_cmp (import_kind_code a.kind) (import_kind_code b.kind))) (then-Equal (value_cmp (Text a.name) (Text b.name)) ∙ value_cmp-Text a.name b.name)
+
+above_all : (tree : ℕ) (import : Import) (more : List Import) → AllByRecursion (Precedes import) more → AllByRecursion (λ b. cmp_of tree (pair_of import) b ≡ Less) (map pair_of more)
+above_all tree import [] low = tt
+above_all tree import (one ∷ more) low = (cmp_is tree import one ∙ low.0, above_all tree import more low.1)
+
+imports_rise : (tree : ℕ) (all : List Import) → IsAscending Precedes all → IsAscending (λ a b. cmp_of tree a b ≡ Less) (map pair_of all)
+imports_rise tree [] up = tt
+imports_rise tree (import ∷ more) up = (above_all tree import more up.0, imports_rise tree more up.1)
+
+import_pairs : (tree : ℕ) (r : Row) → row_ordered tree import_shows import_sorts import_cells import_pair [] r ≡ import_pair (drop 1 r)
+import_pairs tree [] = refl
+import_pairs tree (v ∷ r) = refl
+
+abbrev pub imports_shown : World → List Row
+imports_shown world = map import_shown (imports_in_order world.imports)
+
+pub imports_found : (old new : State) (rows : List Row) → Shown imports_asked.text [] old new rows → (world : World) → KnowsClasses world → Refines old.now world → rows ≡ imports_shown world
+imports_found old new rows h world known s =
+    let all = imports_in_order world.imports in
+    let same : IsPermutation (map import_cells all) (map (drop 1) (old.now.trees s.trees.import)) =
+    IsPermutation-trans _ _ _ (IsPermutation-map import_cells _ _ (in_order_same world.imports)) s.rows.imports.same in
+    all_ordered s.trees.import import_shows import_sorts import_cells import_pair all old.now rows s.tables.import.1.low (import_pairs s.trees.import)
+    (imports_rise s.trees.import all (in_order_rises world.imports s.rows.imported_once)) same (asked_answers Imports imports_asked imports_fits old new world s tt [] rows h).answer
+    ∙ map-map (λ (o : Output). o.1) pair_of all
+
+pub imports_answer : AnswersAll imports_asked.text imports_shown
+imports_answer = answers_all Imports (λ version known. tt) imports_asked imports_fits refl (λ tree. refl) imports_shown imports_found
 
 -- ---- workunits with their classes, in order of number
 

@@ -3,11 +3,12 @@ use Rattle.wu_schema.proofs.Words.{Err, Fault, Has, IfErr, IfOk, Instance, List,
 use Rattle.std.specs.List.{AllByRecursion, AllZip, Contains}
 use Rattle.std.specs.Prelude.{All}
 use Rattle.std.proofs.lemmas.List.{map-id}
-use Rattle.std.proofs.lemmas.List.Elements.{All-contains, recursion_from_All}
+use Rattle.std.proofs.lemmas.List.Elements.{All-contains, All-from_recursion, recursion_from_All}
 use Rattle.wu_core.specs.Classes.{AreClassed, IsClassed}
 use Rattle.wu_core.specs.Hosts.{hosts_of}
 use Rattle.wu_core.specs.Limits.{most_instances}
 use Rattle.wu_core.specs.Storable.{AreStorable, IsArchiveStorable, IsName, IsStorable, IsStoredArchived, IsStoredInstance}
+use Rattle.wu_core.specs.World.{Import}
 use Rattle.wu_core.specs.declared.workunit.Archived.{Archived}
 use Rattle.wu_core.specs.declared.workunit.HostClass.{HostClass}
 use Rattle.wu_schema.specs.Refines.{host_of}
@@ -16,13 +17,16 @@ use Rattle.wu_schema.specs.Stored.{archived_cells, class_cells}
 use Rattle.wu_schema.specs.Reading.{columns}
 use Rattle.wu_store.proofs.LoadLemmas.{never_unread}
 use Rattle.wu_schema.proofs.ReadingLemmas.{is_bare}
-use Rattle.wu_views.specs.Lines.{AreHostsNamed, IsOfClass, IsStoredHost, IsStoredLine, IsStoredResult, archived_lines, class_lines, host_line_of, host_lines, host_row, line_of, line_row, result_line_of, result_line_row, result_lines, workunit_lines}
-use Rattle.wu_views.specs.Listings.{IsRowOfArchived, IsRowOfClass, IsRowOfHost, IsRowOfResult, IsRowOfWorkunit, all_results_shown, archive_of, placed_archived_row, result_shown, results_shown, workunit_shown}
+use Rattle.wu_views.specs.Imports.{imports_in_order}
+use Rattle.wu_views.specs.Lines.{AreHostsNamed, AreImportsStorable, IsOfClass, IsStoredHost, IsStoredImportLine, IsStoredLine, IsStoredResult, archived_lines, class_lines, host_line_of, host_lines, host_row, import_line_of, import_lines, import_row, line_of, line_row, result_line_of, result_line_row, result_lines, workunit_lines}
+use Rattle.wu_views.specs.Listings.{IsRowOf, IsRowOfArchived, IsRowOfClass, IsRowOfHost, IsRowOfImport, IsRowOfResult, IsRowOfWorkunit, all_results_shown, archive_of, import_shown, placed_archived_row, result_shown, results_shown, workunit_shown}
 use Rattle.wu_views.specs.declared.lines.HostLine.{HostLine}
+use Rattle.wu_views.specs.declared.lines.ImportLine.{ImportLine}
 use Rattle.wu_views.specs.declared.lines.ResultLine.{ResultLine}
 use Rattle.wu_views.specs.declared.lines.WorkunitLine.{WorkunitLine}
-use Rattle.wu_views.proofs.LineLemmas.{same_archived, same_class, same_host, same_line, same_result}
-use Rattle.wu_views.proofs.ListAnswers.{archive_shown, classes_shown, hosts_shown, workunits_shown}
+use Rattle.wu_views.proofs.ImportLemmas.{each_in_order}
+use Rattle.wu_views.proofs.LineLemmas.{same_archived, same_class, same_host, same_import, same_line, same_result}
+use Rattle.wu_views.proofs.ListAnswers.{archive_shown, classes_shown, hosts_shown, imports_shown, workunits_shown}
 use Rattle.wu_views.proofs.ListLemmas.{zip_each, zip_mapped, zip_rows}
 
 -- ---- the rows of all lines
@@ -40,6 +44,9 @@ archive_zip world = subst (AllZip (IsRowOfArchived world) (archive_shown world))
 
 pub classes_zip : (world : World) → AllZip (IsRowOfClass world) (classes_shown world) (class_lines world)
 classes_zip world = subst (AllZip (IsRowOfClass world) (classes_shown world)) (map-id world.classes) (zip_rows class_cells (λ (it : HostClass). it) world.classes)
+
+pub imports_zip : (world : World) → AllZip (IsRowOfImport world) (imports_shown world) (import_lines world)
+imports_zip world = zip_rows import_shown import_line_of (imports_in_order world.imports)
 
 pub workunits_zip : (world : World) → AllZip (IsRowOfWorkunit world) (workunits_shown world) (workunit_lines world)
 workunits_zip world = zip_rows workunit_shown line_of world.workunits
@@ -82,17 +89,25 @@ module _ {T C : Type 0} (stored_as : T → C) (IsLine : T → Type 0) (alone : (
   pub line_unrefused : IsLine line → IfErr r (λ fault. fault ≢ NotAProject)
   line_unrefused can = never_unread stored_as IsLine stored r line reads can is
 
+-- the row of one of these things is read as its line
+module _ {X T : Type 0} (line_of : X → T) (cells : T → Row) (IsLine : T → Type 0) (alone : (a b : T) → cells a ≡ cells b → a ≡ b) (all : List X) (row : Row) (line : T) (is : IsRowOf (λ x. cells (line_of x)) line_of all row line) (r : Result T Fault) (reads : Restores cells IsLine row r) where
+  stored_as_line : row ≡ cells line
+  stored_as_line = is.row_is ∙ ap cells (sym is.line_is)
+
+  listed_read : IfOk r (λ read. read ≡ line)
+  listed_read = line_read cells IsLine alone row line stored_as_line r reads
+
+  listed_unrefused : IsLine (line_of is.shown) → IfErr r (λ fault. fault ≢ NotAProject)
+  listed_unrefused can = line_unrefused cells IsLine alone row line stored_as_line r reads (subst IsLine (sym is.line_is) can)
+
 -- ---- hosts
 
 module _ (world : World) (row : Row) (line : HostLine) (is : IsRowOfHost world row line) (r : Result HostLine Fault) (reads : Restores host_row IsStoredHost row r) where
-  host_is : row ≡ host_row line
-  host_is = is.row_is ∙ ap host_row (sym is.line_is)
-
   pub host_read : IfOk r (λ read. read ≡ line)
-  host_read = line_read host_row IsStoredHost same_host row line host_is r reads
+  host_read = listed_read (host_line_of world.grants) host_row IsStoredHost same_host (hosts_of world.grants) row line is r reads
 
   pub host_unrefused : AreHostsNamed world → IfErr r (λ fault. fault ≢ NotAProject)
-  host_unrefused can = line_unrefused host_row IsStoredHost same_host row line host_is r reads (subst IsStoredHost (sym is.line_is) (All-contains IsName (hosts_of world.grants) is.shown can is.there))
+  host_unrefused can = listed_unrefused (host_line_of world.grants) host_row IsStoredHost same_host (hosts_of world.grants) row line is r reads (All-contains IsName (hosts_of world.grants) is.shown can is.there)
 
 -- ---- the archive
 
@@ -110,16 +125,27 @@ module _ (world : World) (row : Row) (line : Archived) (is : IsRowOfArchived wor
 -- ---- the classes of hosts
 
 module _ (world : World) (row : Row) (line : HostClass) (is : IsRowOfClass world row line) (r : Result HostClass Fault) (reads : Restores class_cells IsOfClass row r) where
-  class_is : row ≡ class_cells line
-  class_is = is.row_is ∙ ap class_cells (sym is.line_is)
-
   pub class_read : IfOk r (λ read. read ≡ line)
-  class_read = line_read class_cells IsOfClass same_class row line class_is r reads
+  class_read = listed_read (λ (it : HostClass). it) class_cells IsOfClass same_class world.classes row line is r reads
 
   pub class_unrefused : AreClassed world.classes → IfErr r (λ fault. fault ≢ NotAProject)
   class_unrefused can =
       let it = All-contains IsClassed world.classes is.shown can is.there in
-      line_unrefused class_cells IsOfClass same_class row line class_is r reads (subst IsOfClass (sym is.line_is) (record { host = it.host; class = it.within }))
+      listed_unrefused (λ (it : HostClass). it) class_cells IsOfClass same_class world.classes row line is r reads (record { host = it.host; class = it.within })
+
+-- ---- imports
+
+abbrev IsImportStorable : Import → Type 0
+IsImportStorable import = IsStoredImportLine (import_line_of import)
+
+module _ (world : World) (row : Row) (line : ImportLine) (is : IsRowOfImport world row line) (r : Result ImportLine Fault) (reads : Restores import_row IsStoredImportLine row r) where
+  pub import_read : IfOk r (λ read. read ≡ line)
+  import_read = listed_read import_line_of import_row IsStoredImportLine same_import (imports_in_order world.imports) row line is r reads
+
+  pub import_unrefused : AreImportsStorable world → IfErr r (λ fault. fault ≢ NotAProject)
+  import_unrefused can =
+      let all = All-from_recursion IsImportStorable (imports_in_order world.imports) (each_in_order IsImportStorable world.imports (recursion_from_All IsImportStorable world.imports can)) in
+      listed_unrefused import_line_of import_row IsStoredImportLine same_import (imports_in_order world.imports) row line is r reads (All-contains IsImportStorable (imports_in_order world.imports) is.shown all is.there)
 
 -- ---- workunits
 
@@ -128,14 +154,11 @@ storable_line : (w : Workunit) → IsStorable w → IsStoredLine (line_of w)
 storable_line w is = record { name = is.row.name; parameters = is.row.parameters; input = is.row.input; canonical = is.row.canonical; stamped = is.row.stamped; class = is.class }
 
 module _ (world : World) (row : Row) (line : WorkunitLine) (is : IsRowOfWorkunit world row line) (r : Result WorkunitLine Fault) (reads : Restores line_row IsStoredLine row r) where
-  workunit_is : row ≡ line_row line
-  workunit_is = is.row_is ∙ ap line_row (sym is.line_is)
-
   pub workunit_read : IfOk r (λ read. read ≡ line)
-  workunit_read = line_read line_row IsStoredLine same_line row line workunit_is r reads
+  workunit_read = listed_read line_of line_row IsStoredLine same_line world.workunits row line is r reads
 
   pub workunit_unrefused : AreStorable world → IfErr r (λ fault. fault ≢ NotAProject)
-  workunit_unrefused can = line_unrefused line_row IsStoredLine same_line row line workunit_is r reads (subst IsStoredLine (sym is.line_is) (storable_line is.shown (All-contains IsStorable world.workunits is.shown can is.there)))
+  workunit_unrefused can = listed_unrefused line_of line_row IsStoredLine same_line world.workunits row line is r reads (storable_line is.shown (All-contains IsStorable world.workunits is.shown can is.there))
 
 -- ---- results
 
@@ -148,13 +171,13 @@ storable_result w p is there =
     record { workunit = is.row.name; n = omega (arith, few, low); instance = (is_bare p.1 stored).stored; output = stored.values.output }
 
 module _ (world : World) (row : Row) (line : ResultLine) (is : IsRowOfResult world row line) (r : Result ResultLine Fault) (reads : Restores result_line_row IsStoredResult row r) where
-  result_is : row ≡ result_line_row line
-  result_is = is.of.row_is ∙ ap result_line_row (sym is.of.line_is)
+  abbrev instances : List (ℕ × Instance)
+  instances = enumerate_from 0 is.workunit.instances
 
   pub result_read : IfOk r (λ read. read ≡ line)
-  result_read = line_read result_line_row IsStoredResult same_result row line result_is r reads
+  result_read = listed_read (result_line_of is.workunit.name) result_line_row IsStoredResult same_result instances row line is.of r reads
 
   pub result_unrefused : AreStorable world → IfErr r (λ fault. fault ≢ NotAProject)
   result_unrefused can =
       let w = All-contains IsStorable world.workunits is.workunit can is.present in
-      line_unrefused result_line_row IsStoredResult same_result row line result_is r reads (subst IsStoredResult (sym is.of.line_is) (storable_result is.workunit is.of.shown w is.of.there))
+      listed_unrefused (result_line_of is.workunit.name) result_line_row IsStoredResult same_result instances row line is.of r reads (storable_result is.workunit is.of.shown w is.of.there)

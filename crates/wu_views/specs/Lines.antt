@@ -13,12 +13,15 @@ use Rattle.wu_core.specs.Mask.{error_mask_code}
 use Rattle.wu_core.specs.Limits.{longest_input, longest_output}
 use Rattle.wu_core.specs.Parameters.{IsParameters}
 use Rattle.wu_core.specs.Hosts.{credit_of, grants_of, hosts_of}
-use Rattle.wu_core.specs.World.{World}
+use Rattle.wu_core.specs.World.{Import, World}
 use Rattle.wu_rules.specs.Instances.{is_in_progress, is_over, is_unsent}
+use Rattle.wu_schema.specs.Reading.{kind_cell, verdicts_cell}
 use Rattle.wu_schema.specs.Stored.{host_cells, number, number_or_null, parameter_cells, text_or_null}
-use Rattle.wu_core.specs.Storable.{IsClass, IsName, IsPlace, IsStamped, IsStoredInstance}
+use Rattle.wu_core.specs.Storable.{AreVerdicts, IsClass, IsName, IsPlace, IsStamped, IsStoredInstance}
 use Rattle.wu_views.specs.Counting.{all_instances}
+use Rattle.wu_views.specs.Imports.{imports_in_order}
 use Rattle.wu_views.specs.declared.lines.HostLine.{HostLine}
+use Rattle.wu_views.specs.declared.lines.ImportLine.{ImportLine}
 use Rattle.wu_views.specs.declared.lines.ResultLine.{ResultLine}
 use Rattle.wu_views.specs.declared.lines.Summary.{Summary}
 use Rattle.wu_views.specs.declared.lines.WorkunitLine.{WorkunitLine}
@@ -93,6 +96,16 @@ archived_lines world = world.archived
 -- The hosts that a file named, each with its class, in the order of their names' bytes.
 abbrev pub class_lines : World → List HostClass
 class_lines world = world.classes
+
+-- ---- imports
+
+-- The values of an import's line.
+abbrev pub import_line_of : Import → ImportLine
+import_line_of import = record { kind = import.kind; name = import.name; first_number = import.first_number; verdicts = import.verdicts }
+
+-- The lines of the imports, in order of kind and of the bytes of their names.
+abbrev pub import_lines : World → List ImportLine
+import_lines world = map import_line_of (imports_in_order world.imports)
 
 -- ---- the summary
 
@@ -182,8 +195,21 @@ pub record IsOfClass (it : HostClass) : Type 0 where
   pub host : IsName it.host
   pub class : IsClass it.class
 
+-- A row of the view of imports: the kind, the name, the first number and the verdicts.
+abbrev pub import_row : ImportLine → Row
+import_row it = kind_cell it.kind ∷ Text it.name ∷ number it.first_number ∷ verdicts_cell it.verdicts ∷ []
+
+-- The import has a valid name, and its verdicts are of its kind.
+pub record IsStoredImportLine (it : ImportLine) : Type 0 where
+  pub name : IsName it.name
+  pub verdicts : AreVerdicts it.kind it.verdicts
+
 -- ---- what can be read
 
 -- The hosts of grants have valid names.
 abbrev pub AreHostsNamed : World → Type 0
 AreHostsNamed world = All IsName (hosts_of world.grants)
+
+-- The imports have valid names, and verdicts of their kinds.
+abbrev pub AreImportsStorable : World → Type 0
+AreImportsStorable world = All (λ import. IsStoredImportLine (import_line_of import)) world.imports

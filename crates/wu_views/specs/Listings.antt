@@ -8,7 +8,7 @@ use Rattle.sqlite.specs.State.{FailsToQuery, IsUnchanged, Shown}
 use Rattle.sqlite.specs.Store.{Ghosts}
 use Rattle.sqlite.specs.declared.error.Error.{Error}
 use Rattle.wu_core.specs.Hosts.{hosts_of}
-use Rattle.wu_core.specs.World.{World}
+use Rattle.wu_core.specs.World.{Import, World}
 use Rattle.wu_core.specs.declared.workunit.Archived.{Archived}
 use Rattle.wu_core.specs.declared.workunit.HostClass.{HostClass}
 use Rattle.wu_core.specs.declared.workunit.Instance.{Instance}
@@ -18,8 +18,10 @@ use Rattle.wu_schema.specs.Faults.{fault_of, IsFailure}
 use Rattle.wu_schema.specs.Refines.{Refines, host_of}
 use Rattle.wu_schema.specs.Stored.{archived_cells, class_cells, number}
 use Rattle.wu_store.specs.StandsFor.{KnowsClasses}
-use Rattle.wu_views.specs.Lines.{host_line_of, line_of, line_row, result_line_of, result_line_row}
+use Rattle.wu_views.specs.Imports.{imports_in_order}
+use Rattle.wu_views.specs.Lines.{host_line_of, import_line_of, import_row, line_of, line_row, result_line_of, result_line_row}
 use Rattle.wu_views.specs.declared.lines.HostLine.{HostLine}
+use Rattle.wu_views.specs.declared.lines.ImportLine.{ImportLine}
 use Rattle.wu_views.specs.declared.lines.ResultLine.{ResultLine}
 use Rattle.wu_views.specs.declared.lines.WorkunitLine.{WorkunitLine}
 
@@ -97,3 +99,13 @@ IsRowOfArchived world = IsRowOf placed_archived_row (λ (p : ℕ × Archived). p
 -- The row is that of this host with a class.
 abbrev pub IsRowOfClass : World → Row → HostClass → Type 0
 IsRowOfClass world = IsRowOf class_cells (λ (it : HostClass). it) world.classes
+
+-- ---- imports
+
+-- The row of an import in its view.
+abbrev pub import_shown : Import → Row
+import_shown import = import_row (import_line_of import)
+
+-- The row and the line are those of an import of the world.
+abbrev pub IsRowOfImport : World → Row → ImportLine → Type 0
+IsRowOfImport world = IsRowOf import_shown import_line_of (imports_in_order world.imports)

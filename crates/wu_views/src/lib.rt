@@ -11,8 +11,9 @@ mod questions;
 mod walking;
 
 pub use counts::summary;
-pub use lines::{HostLine, ResultLine, Summary, WorkunitLine};
+pub use lines::{HostLine, ImportLine, ResultLine, Summary, WorkunitLine};
 pub use listings::{
-    ArchiveListing, ClassListing, HostListing, Listing, ResultListing, WorkunitListing,
+    ArchiveListing, ClassListing, HostListing, ImportListing, Listing, ResultListing,
+    WorkunitListing,
 };
 pub use walking::{Takes, walk};

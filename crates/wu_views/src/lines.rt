@@ -2,19 +2,20 @@
 
 ghost use Rattle.std.specs.Prelude.{◌≡◌};
 ghost use Rattle.sqlite.specs.Order.{column};
-ghost use Rattle.wu_views.specs.Lines.{host_row, IsInputLength, IsOfClass, IsOutputLength, IsStoredHost};
+ghost use Rattle.wu_views.specs.Lines.{host_row, import_row, IsInputLength, IsOfClass, IsOutputLength, IsStoredHost, IsStoredImportLine};
 ghost use Rattle.wu_schema.specs.Restoring.{Restores};
 ghost use Rattle.wu_schema.specs.Stored.{class_cells, number};
 
 use sqlite::Row;
 use std::alloc::Global;
 use wu_core::{
-    Assimilate, Deadline, ErrorMask, Fault, FileDelete, HostClass, Instance, LONGEST_INPUT,
-    LONGEST_OUTPUT, Moment, Name, Outcome, Params, ServerState, ValidateState,
+    Assimilate, Bytes, Deadline, ErrorMask, Fault, FileDelete, HostClass, ImportKind, Instance,
+    LONGEST_INPUT, LONGEST_OUTPUT, Moment, Name, Outcome, Params, ServerState, ValidateState,
 };
 use wu_schema::number_at;
 use wu_schema::rows::{
-    bare_instance_from, class_at, instance_number_at, name_at, params_from, progress_from,
+    bare_instance_from, class_at, instance_number_at, kind_at, name_at, params_from, progress_from,
+    verdicts_at,
 };
 
 /// Reads the length of an input in a column, at most 4,096 bytes.
@@ -204,6 +205,38 @@ pub(crate) fn class_from(alloc: Global, row: &Row) -> Result<HostClass, Fault>
     let class = class_at(row, 1)?;
     let host = name_at(alloc, row, 0)?;
     Ok(HostClass { host, class })
+}
+
+/// What the view of imports shows of one.
+#[derive(Drop)]
+pub struct ImportLine {
+    pub kind: ImportKind,
+    pub name: Name,
+    /// The number of the first workunit of a batch, 0 where it made none.
+    pub first_number: u64,
+    /// One for each row of the file: 0 where it was applied, else the number of the skip.
+    pub verdicts: Bytes,
+}
+
+/// Reads the line of the import of a row of its kind, name, first number and verdicts.
+pub(crate) fn import_line_from(alloc: Global, row: &Row) -> Result<ImportLine, Fault>
+    // A row of a kind, a name, a number and verdicts of the kind is read as that import's line, or
+    // out of memory; any other row is refused.
+    ensures { Restores import_row IsStoredImportLine row.now result }
+{
+    if row.column_count() != 4 {
+        return Err(Fault::NotAProject);
+    }
+    let kind = kind_at(row, 0)?;
+    let first_number = number_at(row, 2)?;
+    let name = name_at(alloc, row, 1)?;
+    let verdicts = verdicts_at(alloc, kind, row, 3)?;
+    Ok(ImportLine {
+        kind,
+        name,
+        first_number,
+        verdicts,
+    })
 }
 
 /// How much a project holds.

@@ -3,12 +3,14 @@
 mod archive;
 mod classes;
 mod hosts;
+mod imports;
 mod results;
 mod workunits;
 
 pub use archive::ArchiveListing;
 pub use classes::ClassListing;
 pub use hosts::HostListing;
+pub use imports::ImportListing;
 pub use results::ResultListing;
 use sqlite::{Alter, Row};
 use std::alloc::Global;

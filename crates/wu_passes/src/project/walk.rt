@@ -5,15 +5,15 @@ use sqlite::Alter;
 use std::alloc::Global;
 use wu_core::{Archived, Fault, HostClass};
 use wu_views::{
-    ArchiveListing, ClassListing, HostLine, HostListing, Listing, ResultLine, ResultListing, Takes,
-    WorkunitLine, WorkunitListing, walk,
+    ArchiveListing, ClassListing, HostLine, HostListing, ImportLine, ImportListing, Listing,
+    ResultLine, ResultListing, Takes, WorkunitLine, WorkunitListing, walk,
 };
 
 impl<S: Alter> Project<S> {
     ghost use Rattle.wu_core.specs.Classes.{AreClassed};
     ghost use Rattle.wu_core.specs.Storable.{AreStorable, IsArchiveStorable};
     ghost use Rattle.wu_core.specs.World.{World};
-    ghost use Rattle.wu_views.specs.Lines.{archived_lines, AreHostsNamed, class_lines, host_lines, result_lines, workunit_lines};
+    ghost use Rattle.wu_views.specs.Lines.{archived_lines, AreHostsNamed, AreImportsStorable, class_lines, host_lines, import_lines, result_lines, workunit_lines};
     ghost use Rattle.wu_passes.specs.Walks.{WalksOver};
 
     /// Hands each line of a view to a taker, before the next row is asked for: no list of rows is held.
@@ -107,9 +107,23 @@ impl<S: Alter> Project<S> {
     ) -> Result<(), Fault>
         // All that holds of `walk` holds, of one line for each host with a class, in order of
         // names' bytes.
-        ensures { WalksOver class_lines (λ (world : World). AreClassed world.classes) K.Takes.takes K.Takes.refuses
-            self.old self.new taker.old taker.new result }
+        ensures { WalksOver class_lines (λ (world : World). AreClassed world.classes)
+            K.Takes.takes K.Takes.refuses self.old self.new taker.old taker.new result }
     {
         self.walk::<ClassListing, K>(alloc, taker)
+    }
+
+    /// Hands on the lines of all imports, in order of their kinds and of their names' bytes, as `walk` does.
+    pub fn walk_imports<K: Takes<ImportLine>>(
+        &mut self,
+        alloc: Global,
+        taker: &mut K,
+    ) -> Result<(), Fault>
+        // All that holds of `walk` holds, of one line for each import, in order of kind and names'
+        // bytes.
+        ensures { WalksOver import_lines AreImportsStorable K.Takes.takes K.Takes.refuses
+            self.old self.new taker.old taker.new result }
+    {
+        self.walk::<ImportListing, K>(alloc, taker)
     }
 }

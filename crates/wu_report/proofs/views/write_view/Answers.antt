@@ -31,6 +31,12 @@ returns-in-Classes-clause-written g c = rw c.in-Classes.is c.write_listing-in-Cl
 pub returns-in-Classes-clause-counted : goal.returns-in-Classes-clause-counted
 returns-in-Classes-clause-counted g c is = absurd (let no = sym is ∙ c.in-Classes.is in cc)
 
+pub returns-in-Imports-clause-written : goal.returns-in-Imports-clause-written
+returns-in-Imports-clause-written g c = rw c.in-Imports.is c.write_listing-in-Imports.ensures
+
+pub returns-in-Imports-clause-counted : goal.returns-in-Imports-clause-counted
+returns-in-Imports-clause-counted g c is = absurd (let no = sym is ∙ c.in-Imports.is in cc)
+
 pub returns-in-Summary-clause-written : goal.returns-in-Summary-clause-written
 returns-in-Summary-clause-written g c = rw c.in-Summary.is c.write_counts.ensures.written
 
