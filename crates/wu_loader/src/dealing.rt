@@ -25,18 +25,6 @@ pub(crate) fn sort(placed: &mut Vec<Placed>) -> Result<(), AllocError>
     placed.sort_by(|one, other| { one.workunit.cmp(&other.workunit).then(one.n.cmp(&other.n)) })
 }
 
-/// Returns the instances as a queue.
-pub(crate) fn queue_of(alloc: Global, placed: Vec<Placed>) -> Result<VecDeque<Placed>, AllocError>
-    // After `Ok` the queue has the instances in their order.
-    ensures { IfOk result (λ queue. queue.items ≡ placed.items) }
-{
-    let mut queue = VecDeque::new(alloc);
-    for one in placed {
-        queue.push_back(one)?;
-    }
-    Ok(queue)
-}
-
 /// Returns whether the first of these is the one of this workunit and this number.
 fn is_next(left: &VecDeque<Placed>, workunit: u64, n: usize) -> bool
     ensures { IsTrue result ↔ IsNext workunit n left.now.items }

@@ -13,6 +13,7 @@ use wu_core::Fault;
 use wu_schema::query;
 
 /// The rows of the tables that every version has, as questions show them.
+#[derive(Drop)]
 pub struct PlainRows {
     pub project: Vec<Row>,
     pub workunits: Vec<Row>,
@@ -21,21 +22,6 @@ pub struct PlainRows {
     pub hosts: Vec<Row>,
     pub archived: Vec<Row>,
     pub imports: Vec<Row>,
-}
-
-// It is written out, so that a caller does not prove again how each part is dropped.
-impl Drop for PlainRows {
-    fn drop(self) {
-        let PlainRows {
-            project: _project,
-            workunits: _workunits,
-            instances: _instances,
-            grants: _grants,
-            hosts: _hosts,
-            archived: _archived,
-            imports: _imports,
-        } = self;
-    }
 }
 
 /// The rows of the tables of classes.

@@ -8,38 +8,43 @@ ghost use Rattle.wu_loader.specs.Worlds.{AreRowsOfWorks, IsOrdered};
 ghost use Rattle.wu_loader.specs.Wrongs.{AreWorkunits, IsWrongWork};
 ghost use Rattle.wu_loader.specs.First.{AreResults};
 
-use crate::dealing::{deal, queue_of, sort};
+use crate::dealing::{deal, sort};
 use crate::finding::{LoadedTable, NoWorld};
 use crate::rows::Placed;
 use crate::whole::all_from;
 use sqlite::Row;
 use std::alloc::Global;
+use std::collections::VecDeque;
 use wu_core::Workunit;
 
-/// Returns the workunits of these rows, with the instances of those.
+/// Returns the workunits of these rows, with the instances of those. It gives the memory of the rows back as soon as
+/// they are read.
 pub(crate) fn works_from(
     alloc: Global,
-    rows: &[Row],
-    instances: &[Row],
+    rows: Vec<Row>,
+    instances: Vec<Row>,
 ) -> Result<Vec<Workunit>, NoWorld>
     // After `Ok` the rows are those of these workunits and, in some order, of their instances.
-    ensures works { IfOk result (λ works. AreRowsOfWorks rows.now instances.now works.items) }
+    ensures works { IfOk result (λ works. AreRowsOfWorks rows.items instances.items works.items) }
     // After `Ok` no row of a workunit is wrong.
-    ensures workunits { IfOk result (λ _. AreWorkunits rows.now) }
+    ensures workunits { IfOk result (λ _. AreWorkunits rows.items) }
     // After `Ok` no row of a result is wrong.
-    ensures results { IfOk result (λ _. AreResults rows.now instances.now) }
+    ensures results { IfOk result (λ _. AreResults rows.items instances.items) }
     // A row that is reported means that the rows are those of no readable workunits in order of
     // number.
     ensures none { IfErr result (λ reason. UnlessMemory reason (λ _. (works : List Workunit)
-        → IsOrdered works → All IsStorable works → ¬ AreRowsOfWorks rows.now instances.now works)) }
+        → IsOrdered works → All IsStorable works
+        → ¬ AreRowsOfWorks rows.items instances.items works)) }
     // The reported row is the first of no workunit; else the first of no instance; else the first
     // result that is of none of the workunits.
     ensures told { IfErr result (λ reason. UnlessMemory reason
-        (IsWrongWork rows.now instances.now)) }
+        (IsWrongWork rows.items instances.items)) }
 {
-    let workunits = all_from::<Workunit>(alloc, LoadedTable::Workunit, rows)?;
-    let mut placed = all_from::<Placed>(alloc, LoadedTable::Result, instances)?;
+    let workunits = all_from::<Workunit>(alloc, LoadedTable::Workunit, &rows)?;
+    drop(rows);
+    let mut placed = all_from::<Placed>(alloc, LoadedTable::Result, &instances)?;
+    drop(instances);
     sort(&mut placed)?;
-    let placed = queue_of(alloc, placed)?;
-    deal(alloc, workunits, placed)
+    let queue = VecDeque::from(placed);
+    deal(alloc, workunits, queue)
 }

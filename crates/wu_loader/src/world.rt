@@ -93,23 +93,23 @@ struct Plain {
 
 /// Returns what these rows of a project of this version are those of, or the first row that keeps them from being those
 /// of anything, in the order of the tables.
-fn plain_from(alloc: Global, version: u64, rows: &PlainRows) -> Result<Plain, NoWorld>
+fn plain_from(alloc: Global, version: u64, rows: PlainRows) -> Result<Plain, NoWorld>
     // After `Ok` the rows of the tables of every version are those of these values.
-    ensures plain { IfOk result (λ plain. ArePlainRowsOf rows.now (plain_world plain)) }
+    ensures plain { IfOk result (λ plain. ArePlainRowsOf rows (plain_world plain)) }
     // After `Ok` the project is of this version.
     ensures version { IfOk result (λ plain. plain.project.version ≡ version) }
     // After `Ok` no row of these tables is wrong.
-    ensures right { IfOk result (λ _. AreRightBefore version rows.now 7) }
+    ensures right { IfOk result (λ _. AreRightBefore version rows 7) }
     // A row that is reported means that the rows are those of no readable world of this version in
     // order of number.
     ensures none { IfErr result (λ reason. UnlessMemory reason (λ _. (world : World)
         → IsReadable world → world.version ≡ version → IsOrdered world.workunits
-        → ¬ ArePlainRowsOf rows.now world)) }
+        → ¬ ArePlainRowsOf rows world)) }
     // The reported row is the first that is missing or invalid at its place, in the written order.
-    ensures told { IfErr result (λ reason. UnlessMemory reason (IsFirstPlain version rows.now)) }
+    ensures told { IfErr result (λ reason. UnlessMemory reason (IsFirstPlain version rows)) }
 {
     let project = project_from(alloc, version, &rows.project)?;
-    let workunits = works_from(alloc, &rows.workunits, &rows.instances)?;
+    let workunits = works_from(alloc, rows.workunits, rows.instances)?;
     let grants = all_from::<Grant>(alloc, LoadedTable::CreditGrant, &rows.grants)?;
     know_hosts(alloc, &rows.hosts, &grants)?;
     let archived = all_from::<Archived>(alloc, LoadedTable::Archived, &rows.archived)?;
@@ -163,15 +163,15 @@ fn classes_from(
 
 /// Returns the world of these rows of a project of this version, or the first row that keeps them from being those of
 /// one, in the order of the tables.
-pub fn world_from(alloc: Global, version: u64, rows: &TableRows) -> Result<Loaded, NoWorld>
+pub fn world_from(alloc: Global, version: u64, rows: TableRows) -> Result<Loaded, NoWorld>
     // After `Ok` the rows are those of this world, which is of this version.
-    ensures world { IfOk result (AreRowsOf version rows.now) }
+    ensures world { IfOk result (AreRowsOf version rows) }
     // A row that is reported means that the rows are those of no readable world of this version.
     ensures none { IfErr result (λ reason. UnlessMemory reason (λ _. (world : World)
-        → IsReadable world → IsOrdered world.workunits → ¬ AreRowsOf version rows.now world)) }
+        → IsReadable world → IsOrdered world.workunits → ¬ AreRowsOf version rows world)) }
     // The reported row is the first that is missing, or invalid for a project of this version, in
     // the written order.
-    ensures told { IfErr result (λ reason. UnlessMemory reason (IsFirstWrong version rows.now)) }
+    ensures told { IfErr result (λ reason. UnlessMemory reason (IsFirstWrong version rows)) }
 {
     let Plain {
         project,
@@ -179,7 +179,7 @@ pub fn world_from(alloc: Global, version: u64, rows: &TableRows) -> Result<Loade
         grants,
         archived,
         imports,
-    } = plain_from(alloc, version, &rows.plain)?;
+    } = plain_from(alloc, version, rows.plain)?;
     let WithClasses { workunits, hosts } = classes_from(alloc, workunits, &rows.classes)?;
     Ok(Loaded::new(
         workunits,

@@ -25,7 +25,8 @@ fn project_rows<S: Alter>(conn: &mut Connection<S>) -> Result<Vec<Row>, Error>
     // Over such a table with no limit on steps, an error counts as `Memory` or `Broken`.
     ensures told { OnFault S.Store conn.old conn.new result (FailsToAsk conn.old.step_limit) }
     // The rows are the answer of the store, from the table or from what else has its name.
-    ensures shown { OnAnswer S.Store conn.old conn.new result (λ db rows. IsAnswered db rows.items) }
+    ensures shown { OnAnswer S.Store conn.old conn.new result
+        (λ db rows. IsAnswered db rows.items) }
     // Where no project is, the error is a missing table or column, or counts as `Memory` or
     // `Broken`.
     ensures absent { OnFault S.Store conn.old conn.new result TellsAbsence }

@@ -29,7 +29,8 @@ impl Model for Verdicts {
 
     ghost view = { λ verdicts. verdicts_of (string_bytes verdicts.digits) };
 
-    ghost invariant = { λ verdicts. verdict_digits (verdicts_of (string_bytes verdicts.digits)) ≡ string_bytes verdicts.digits };
+    ghost invariant = { λ verdicts. verdict_digits (verdicts_of (string_bytes verdicts.digits))
+        ≡ string_bytes verdicts.digits };
 }
 
 /// Returns the digit of a verdict of at most 9.

@@ -59,11 +59,11 @@ returns-in-Err-Wrong-clause-opens g c = c.in_ok-rows.ensures.opens
 no_fault_of_memory : ◌≢◌ {A = Result Found Fault} (Err Memory) (Err Broken)
 no_fault_of_memory is = absurd cc
 
-pub returns-clause-asks : goal.returns-clause-asks
-returns-clause-asks g c = asks_made g.S.Store c.args.conn.now c.table_rows.new.conn c.in_ok-rows.rows (Err Memory) no_fault_of_memory c.in_ok-rows.ensures.asks
+pub returns-in-Err-Memory-clause-asks : goal.returns-in-Err-Memory-clause-asks
+returns-in-Err-Memory-clause-asks g c = asks_made g.S.Store c.args.conn.now c.table_rows.new.conn c.in_ok-rows.rows (Err Memory) no_fault_of_memory c.in_ok-rows.ensures.asks
 
-pub returns-clause-opens : goal.returns-clause-opens
-returns-clause-opens g c clean = inr (c.in_ok-rows.ensures.opens clean)
+pub returns-in-Err-Memory-clause-opens : goal.returns-in-Err-Memory-clause-opens
+returns-in-Err-Memory-clause-opens g c clean = inr (c.in_ok-rows.ensures.opens clean)
 
 pub returns-in-Err-Wrong-clause-told : goal.returns-in-Err-Wrong-clause-told
 returns-in-Err-Wrong-clause-told g c clean trees has = record {

@@ -21,7 +21,7 @@ returns-clause-world c =
       next_number = made.next_number i;
       version = (made.version ∙ sym is) i;
     } in
-    subst (AreRowsOf c.args.version c.args.rows.now) (sym same) (found_rows c.args.version c.args.rows.now plain with.field-0 read.ensures.plain with.ensures.found is)
+    subst (AreRowsOf c.args.version c.args.rows) (sym same) (found_rows c.args.version c.args.rows plain with.field-0 read.ensures.plain with.ensures.found is)
 
 pub returns-in_err-project-clause-none : goal.returns-in_err-project-clause-none
 returns-in_err-project-clause-none c =
@@ -29,9 +29,9 @@ returns-in_err-project-clause-none c =
 
 pub returns-in_err-project-clause-told : goal.returns-in_err-project-clause-told
 returns-in_err-project-clause-told c =
-    handed c.from_residual.result c.in_err-project.field-0.0 _ _ (λ wrong it. first_of_plain c.args.version c.args.rows.now wrong it) c.from_residual.ensures.1 c.in_err-project.ensures.told
+    handed c.from_residual.result c.in_err-project.field-0.0 _ _ (λ wrong it. first_of_plain c.args.version c.args.rows wrong it) c.from_residual.ensures.1 c.in_err-project.ensures.told
 
 pub returns-in_err-workunits-clause-told : goal.returns-in_err-workunits-clause-told
 returns-in_err-workunits-clause-told c =
     handed c.from_residual-in_err-workunits.result c.in_err-workunits.field-0.0 _ _
-    (λ wrong it. first_of_classes c.args.version c.args.rows.now wrong _ (sym c.in_ok-project.ensures.plain.workunits) c.in_ok-project.ensures.right it) c.from_residual-in_err-workunits.ensures.1 c.in_err-workunits.ensures.told
+    (λ wrong it. first_of_classes c.args.version c.args.rows wrong _ (sym c.in_ok-project.ensures.plain.workunits) c.in_ok-project.ensures.right it) c.from_residual-in_err-workunits.ensures.1 c.in_err-workunits.ensures.told
