@@ -82,7 +82,7 @@ pub(crate) fn deal(
 {
     let total = placed.len();
     let mut left = placed;
-    let mut dealt = Vec::new(alloc);
+    let mut dealt = Vec::with_capacity(alloc, workunits.len())?;
     for mut workunit in workunits {
         let instances = take_instances(alloc, workunit.number, &mut left)?;
         workunit.instances = Instances::from_vec(instances);

@@ -23,7 +23,7 @@ pub(crate) fn all_from<T: FromRow + Drop>(
     ensures none { IfErr result (λ reason. UnlessMemory reason
         (IsIn table (IsNoRow T.cells T.is_value rows.now))) }
 {
-    let mut values = Vec::new(alloc);
+    let mut values = Vec::with_capacity(alloc, rows.len())?;
     for (before, row) in rows.iter().enumerate() {
         let place = before as u64 + 1;
         match T::from_row(alloc, place, row) {

@@ -1,5 +1,6 @@
 //! The progress line on a terminal: how many answers have gone out, and the last of them. No contract speaks of the
-//! terminal; what it shows is wiped before anything else is written.
+//! terminal; what it shows is wiped before anything else is written. Where rows were skipped, a line stays that says
+//! where to read on.
 
 ghost use Rattle.std.specs.Prelude.{◌≡◌};
 ghost use Rattle.wu_process.specs.Signs.{handed_on};
@@ -11,6 +12,9 @@ const WIPE: &[u8] = b"\r\x1b[K";
 
 /// How many bytes of a line are shown at most.
 const MOST_SHOWN: usize = 64;
+
+/// What stays on a terminal where rows were skipped.
+const SKIPPED: &[u8] = b"rows were skipped: lintelthyme explain skips\n";
 
 /// The first line of an answer.
 #[derive(Drop)]
@@ -51,6 +55,14 @@ impl FirstLine {
             None
         }
     }
+
+    /// Returns whether the line reports that rows were skipped, as far as all of it can be shown.
+    fn tells_skipped(&self) -> bool {
+        match self.shown() {
+            Some(line) => line.ends_with(b" skipped") && !line.ends_with(b" 0 skipped"),
+            None => false,
+        }
+    }
 }
 
 /// The progress line of a terminal; without a terminal nothing is shown.
@@ -60,6 +72,7 @@ pub struct Signs<T: Drop> {
     answers: u64,
     answer: FirstLine,
     is_shown: bool,
+    has_skipped: bool,
 }
 
 impl<T: Write + Drop> Signs<T> {
@@ -70,6 +83,7 @@ impl<T: Write + Drop> Signs<T> {
             answers: 0,
             answer: FirstLine::new(),
             is_shown: false,
+            has_skipped: false,
         }
     }
 
@@ -112,10 +126,24 @@ impl<T: Write + Drop> Signs<T> {
         }
     }
 
+    /// Wipes what is shown. Where rows were skipped, a line stays that says where to read on.
+    fn finish(&mut self) {
+        self.wipe();
+        if !self.has_skipped {
+            return;
+        }
+        if let Some(terminal) = &mut self.terminal {
+            let _ = terminal.write_all(SKIPPED);
+        }
+    }
+
     /// Counts one more answer, and shows it.
     fn count(&mut self) {
         self.answers = self.answers.saturating_add(1);
         self.tell();
+        if self.answer.tells_skipped() {
+            self.has_skipped = true;
+        }
         self.answer = FirstLine::new();
     }
 }
@@ -138,9 +166,9 @@ impl<O: Write + Drop, T: Write + Drop> Watched<O, T> {
         self.signs.tell();
     }
 
-    /// Wipes what is shown.
+    /// Wipes what is shown, and says where to read on if rows were skipped.
     pub fn end(&mut self) {
-        self.signs.wipe();
+        self.signs.finish();
     }
 }
 

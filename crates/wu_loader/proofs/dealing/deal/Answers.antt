@@ -13,7 +13,7 @@ use Rattle.wu_loader.proofs.DealLemmas.{no_items, deals_all, deals_left, deals_m
 use Rattle.wu_loader.proofs.dealing.deal.Goals as goal
 
 pub loop-workunit-init : goal.loop-workunit-init
-loop-workunit-init c = rw (c.into_iter-workunit-iterator.ensures.into_iter_gives.0, c.new-dealt.ensures.items) (deals_none c.args.workunits.items c.args.placed.items)
+loop-workunit-init c = rw (c.into_iter-workunit-iterator.ensures.into_iter_gives.0, c.in_ok-dealt.ensures.items) (deals_none c.args.workunits.items c.args.placed.items)
 
 pub loop-workunit-preserved : goal.loop-workunit-preserved
 loop-workunit-preserved c =
@@ -23,10 +23,15 @@ loop-workunit-preserved c =
     let grown : c.push.new.self.items ≡ c.loop-workunit.dealt.items ++ dealt ∷ [] = search rules in
     rw grown (deals_more _ _ _ _ _ c.in-Some.workunit _ _ _ so_far told.taken told.few told.all)
 
+pub returns-in_err-dealt-clause-none : goal.returns-in_err-dealt-clause-none
+returns-in_err-dealt-clause-none c =
+    let none = λ (wrong : WrongRow). (ws : List Workunit) → IsOrdered ws → ¬ AreDealt c.args.workunits.items c.args.placed.items ws in
+    handed c.from_residual.result Memory none none (λ wrong is. is) c.from_residual.ensures.1 tt
+
 pub returns-in_err-instances-clause-none : goal.returns-in_err-instances-clause-none
 returns-in_err-instances-clause-none c =
     let none = λ (wrong : WrongRow). (ws : List Workunit) → IsOrdered ws → ¬ AreDealt c.args.workunits.items c.args.placed.items ws in
-    handed c.from_residual.result Memory none none (λ wrong is. is) c.from_residual.ensures.1 tt
+    handed c.from_residual-in_err-instances.result Memory none none (λ wrong is. is) c.from_residual-in_err-instances.ensures.1 tt
 
 pub returns-in_err-push-clause-none : goal.returns-in_err-push-clause-none
 returns-in_err-push-clause-none c =
@@ -49,10 +54,15 @@ returns-clause-none c =
     let some : c.loop-workunit.left.items ≢ [] = search rules in
     deals_left _ _ _ _ _ so_far some
 
+pub returns-in_err-dealt-clause-told : goal.returns-in_err-dealt-clause-told
+returns-in_err-dealt-clause-told c =
+    let told = IsIn table.Result (IsUndealtAt c.args.workunits.items c.args.placed.items) in
+    handed c.from_residual.result Memory told told (λ wrong is. is) c.from_residual.ensures.1 tt
+
 pub returns-in_err-instances-clause-told : goal.returns-in_err-instances-clause-told
 returns-in_err-instances-clause-told c =
     let told = IsIn table.Result (IsUndealtAt c.args.workunits.items c.args.placed.items) in
-    handed c.from_residual.result Memory told told (λ wrong is. is) c.from_residual.ensures.1 tt
+    handed c.from_residual-in_err-instances.result Memory told told (λ wrong is. is) c.from_residual-in_err-instances.ensures.1 tt
 
 pub returns-in_err-push-clause-told : goal.returns-in_err-push-clause-told
 returns-in_err-push-clause-told c =

@@ -19,12 +19,17 @@ loop-before-preserved g c =
     })
 
 pub loop-before-init : goal.loop-before-init
-loop-before-init g c = rw c.new-values.ensures.items (record { same = refl; each = All-nil g.T.FromRow.is_value; long = refl })
+loop-before-init g c = rw c.in_ok-values.ensures.items (record { same = refl; each = All-nil g.T.FromRow.is_value; long = refl })
+
+pub returns-in_err-values-clause-none : goal.returns-in_err-values-clause-none
+returns-in_err-values-clause-none g c =
+    let none = IsIn c.args.table (IsNoRow g.T.FromRow.cells g.T.FromRow.is_value c.args.rows.now) in
+    handed c.from_residual.result Memory none none (λ wrong is. is) c.from_residual.ensures.1 tt
 
 pub returns-in_err-push-in-Ok-clause-none : goal.returns-in_err-push-in-Ok-clause-none
 returns-in_err-push-in-Ok-clause-none g c =
     let none = IsIn c.args.table (IsNoRow g.T.FromRow.cells g.T.FromRow.is_value c.args.rows.now) in
-    handed c.from_residual.result Memory none none (λ wrong is. is) c.from_residual.ensures.1 tt
+    handed c.from_residual-in_err-push-in-Ok.result Memory none none (λ wrong is. is) c.from_residual-in_err-push-in-Ok.ensures.1 tt
 
 pub returns-in-Err-NotAProject-clause-none : goal.returns-in-Err-NotAProject-clause-none
 returns-in-Err-NotAProject-clause-none g c = let so_far = c.loop-before.invariant in (
