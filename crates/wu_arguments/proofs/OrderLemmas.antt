@@ -20,7 +20,7 @@ module _ (rows : List Row) (asked : Subcommand) where
   line_made asking (Ok (order.Script script)) values is = absurd is
   line_made asking (Ok (order.Session path)) values is = absurd is
   line_made asking (Ok (order.Check path)) values is = absurd is
-  line_made asking (Ok (order.Backup files)) values is = absurd is
+  line_made asking (Ok (order.Export it)) values is = absurd is
   line_made asking (Ok (order.Explain topic)) values is = absurd is
   line_made asking (Err usage) values is = tt
 

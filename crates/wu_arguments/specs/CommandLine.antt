@@ -11,17 +11,19 @@ use Rattle.wu_core.specs.declared.import.ImportKind.TheVariants as kind
 use Rattle.wu_rules.specs.declared.due.Pass.{Pass as PassKind}
 use Rattle.wu_rules.specs.declared.due.Pass.TheVariants as pass
 use Rattle.wu_arguments.specs.declared.option.LineOption.{LineOption}
-use Rattle.wu_arguments.specs.declared.option.LineOption.TheVariants.{Database, Checked, To, Name, Jobs, Template, File, Now, Limit, MinAge, Workunit, View, Topic, Detail}
+use Rattle.wu_arguments.specs.declared.option.LineOption.TheVariants.{Database, Checked, To, Folder, Only, Name, Jobs, Template, File, Now, Limit, MinAge, Workunit, View, Topic, Detail}
 use Rattle.wu_arguments.specs.declared.option.OptionValue.{OptionValue}
 use Rattle.wu_arguments.specs.declared.option.OptionValue.TheVariants.{Text, TextIfAny, Number, Word}
 use Rattle.wu_arguments.specs.declared.subcommand.Subcommand.{Subcommand}
-use Rattle.wu_arguments.specs.declared.subcommand.Subcommand.TheVariants.{Import, Pass, Cancel, Cycle, Show, Imports, Upgrade, Script, Session, Check, Backup, Explain}
+use Rattle.wu_arguments.specs.declared.subcommand.Subcommand.TheVariants.{Import, Pass, Cancel, Cycle, Show, Imports, Upgrade, Script, Session, Check, Backup, Outputs, Explain}
 
 -- The name of an option, without its two hyphens.
 abbrev pub option_name : LineOption → List ℕ
 option_name Database = codes "db"
 option_name Checked = codes "db"
 option_name To = codes "to"
+option_name Folder = codes "to"
+option_name Only = codes "name"
 option_name Name = codes "name"
 option_name Jobs = codes "jobs"
 option_name Template = codes "template"
@@ -34,10 +36,12 @@ option_name View = codes "view"
 option_name Topic = codes "topic"
 option_name Detail = codes "which"
 
--- What follows an option on a line. A template and the words of `explain` may be left out, and those words stand alone.
+-- What follows an option on a line. A template, the name of one workunit and the words of `explain` may be left out, and
+-- the words of `explain` stand alone.
 -- Limits and ages are whole numbers of 64 bits.
 abbrev pub value_of_option : LineOption → OptionValue
 value_of_option Template = TextIfAny
+value_of_option Only = TextIfAny
 value_of_option Limit = Number
 value_of_option MinAge = Number
 value_of_option Topic = Word
@@ -89,6 +93,7 @@ subcommand_name Script = codes "script"
 subcommand_name Session = codes "session"
 subcommand_name Check = codes "check"
 subcommand_name Backup = codes "backup"
+subcommand_name Outputs = codes "outputs"
 subcommand_name Explain = codes "explain"
 
 -- The options of a template: only a batch may have one.
@@ -113,13 +118,14 @@ options_of Script = Database ∷ File ∷ []
 options_of Session = Database ∷ []
 options_of Check = Checked ∷ []
 options_of Backup = Checked ∷ To ∷ []
+options_of Outputs = Checked ∷ Folder ∷ Only ∷ []
 options_of Explain = Topic ∷ Detail ∷ []
 
 abbrev pub all_subcommands : List Subcommand
 all_subcommands =
     Import kind.Batch ∷ Import kind.Sent ∷ Import kind.Reported ∷ Import kind.Classes
     ∷ Pass pass.Transition ∷ Pass pass.Validate ∷ Pass pass.Assimilate ∷ Pass pass.Delete ∷ Pass pass.Purge
-    ∷ Cancel ∷ Cycle ∷ Show ∷ Imports ∷ Upgrade ∷ Script ∷ Session ∷ Check ∷ Backup ∷ Explain ∷ []
+    ∷ Cancel ∷ Cycle ∷ Show ∷ Imports ∷ Upgrade ∷ Script ∷ Session ∷ Check ∷ Backup ∷ Outputs ∷ Explain ∷ []
 
 -- The subcommand of this name.
 abbrev pub subcommand_named : List ℕ → Option Subcommand

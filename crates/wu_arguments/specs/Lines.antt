@@ -13,6 +13,8 @@ use Rattle.wu_arguments.specs.declared.subcommand.Subcommand.{Subcommand}
 use Rattle.wu_arguments.specs.declared.subcommand.Subcommand.TheVariants as subcommand
 use Rattle.wu_arguments.specs.declared.line.Asking.{Asking}
 use Rattle.wu_arguments.specs.declared.line.Asking.TheVariants as asking
+use Rattle.wu_arguments.specs.declared.order.Export.{Export}
+use Rattle.wu_arguments.specs.declared.order.Export.TheVariants as export
 use Rattle.wu_arguments.specs.declared.order.Order.{Order}
 use Rattle.wu_arguments.specs.declared.order.Order.TheVariants as order
 
@@ -77,6 +79,17 @@ abbrev pub IsLineIn : List Row → Asking → Order → Type 0
 IsLineIn found asking (order.Line line) = IsTextIn found option.Database line.db × (line.asking ≡ asking)
 IsLineIn found asking _ = ⊥
 
+-- Where an export is made: the path of a file or of a folder.
+abbrev pub export_place : Export → List ℕ
+export_place (export.Backup to) = to
+export_place (export.Outputs files) = files.folder
+
+-- The words ask for this export, with the values that clap finds of its options.
+abbrev pub IsExport : List Row → Subcommand → Export → Type 0
+IsExport found asked (export.Backup to) = (asked ≡ subcommand.Backup) × IsTextIn found option.To to
+IsExport found asked (export.Outputs files) =
+    (asked ≡ subcommand.Outputs) × IsTextIn found option.Folder files.folder × (value_in found option.Only ≡ files.name)
+
 -- The words ask for this subcommand, with the values that clap finds of its options.
 abbrev pub IsOrder : List Row → Subcommand → Order → Type 0
 IsOrder found asked (order.Line line) = IsTextIn found option.Database line.db × HasValues found asked line.asking
@@ -84,7 +97,6 @@ IsOrder found asked (order.Script script) =
     (asked ≡ subcommand.Script) × IsTextIn found option.Database script.db × IsTextIn found option.File script.file
 IsOrder found asked (order.Session path) = (asked ≡ subcommand.Session) × IsTextIn found option.Database path
 IsOrder found asked (order.Check path) = (asked ≡ subcommand.Check) × IsTextIn found option.Checked path
-IsOrder found asked (order.Backup files) =
-    (asked ≡ subcommand.Backup) × IsTextIn found option.Checked files.db × IsTextIn found option.To files.to
+IsOrder found asked (order.Export it) = IsTextIn found option.Checked it.db × IsExport found asked it.export
 IsOrder found asked (order.Explain topic) =
     (asked ≡ subcommand.Explain) × (value_in found option.Topic ≡ topic.name) × (value_in found option.Detail ≡ topic.detail)

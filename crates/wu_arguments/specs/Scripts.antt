@@ -7,6 +7,7 @@ use Rattle.wu_arguments.specs.Refusals.{Explains, IsLineOf, IsOrderOf}
 use Rattle.wu_arguments.specs.declared.line.Asking.{Asking}
 use Rattle.wu_arguments.specs.declared.line.Asking.TheVariants as asking
 use Rattle.wu_arguments.specs.declared.line.Line.{Line}
+use Rattle.wu_arguments.specs.declared.order.Export.{Export}
 use Rattle.wu_arguments.specs.declared.order.Order.{Order}
 use Rattle.wu_arguments.specs.declared.order.Order.TheVariants as order
 use Rattle.wu_arguments.specs.declared.refusal.Outsider.{Outsider}
@@ -19,23 +20,23 @@ use Rattle.wu_arguments.specs.declared.refusal.Refusal.TheVariants as refusal
 abbrev pub command_words : List ℕ → List (List ℕ) → List (List ℕ)
 command_words db words = codes "lintelthyme" ∷ words ++ (codes "--db=" ++ db) ∷ []
 
--- What a script may not contain: another script, a session, a check, a backup or an explanation.
+-- What a script may not contain: another script, a session, a check, an export or an explanation.
 abbrev pub outsider_of : Order → Option Outsider
 outsider_of (order.Line line) = None
 outsider_of (order.Script script) = Some outsider.Script
 outsider_of (order.Session path) = Some outsider.Session
 outsider_of (order.Check path) = Some outsider.Check
-outsider_of (order.Backup files) = Some (outsider.Backup files.to)
+outsider_of (order.Export it) = Some (outsider.Export it.export)
 outsider_of (order.Explain topic) = Some outsider.Explanation
 
--- Where the file of a backup is to be made, of a line that is refused since it asks for one; else the refusal.
-abbrev pub backup_asked : Refusal → Result (List ℕ) Refusal
-backup_asked (refusal.Outsider (outsider.Backup to)) = Ok to
-backup_asked why = Err why
+-- What is to be made of a copy, of a line that is refused since it asks for that; else the refusal.
+abbrev pub export_asked : Refusal → Result Export Refusal
+export_asked (refusal.Outsider (outsider.Export export)) = Ok export
+export_asked why = Err why
 
--- The refusal of what was to be repeated: a backup is no pass.
+-- The refusal of what was to be repeated: an export is no pass.
 abbrev pub repeated_refusal : Refusal → Refusal
-repeated_refusal (refusal.Outsider (outsider.Backup to)) = refusal.Repeat
+repeated_refusal (refusal.Outsider (outsider.Export export)) = refusal.Repeat
 repeated_refusal why = why
 
 -- The words read as this line, or as this refusal; any words may be out of memory.
@@ -53,7 +54,7 @@ is_pass (asking.Pass pass now limit min_age) = true
 is_pass _ = false
 
 -- The words after `repeat` read as a line that is a pass, or are refused. Any other line is refused as `Repeat`, and so
--- is a backup.
+-- is an export.
 abbrev pub ReadsRepeated : List (List ℕ) → Result Line Refusal → Type 0
 ReadsRepeated words (Ok line) = IsLineOf words line × (is_pass line.asking ≡ true)
 ReadsRepeated words (Err why) =

@@ -50,6 +50,10 @@ pub enum LineOption {
     Checked,
     /// The file that a backup makes.
     To,
+    /// The folder in which outputs become files.
+    Folder,
+    /// The name of a workunit, where one alone is asked for.
+    Only,
     /// The name of an import.
     Name,
     /// A file of jobs.
@@ -100,6 +104,18 @@ impl LineOption {
                 value: OptionValue::Text,
                 value_name: "FILE",
                 help: "The file that is made; a path that is there is refused",
+            },
+            LineOption::Folder => OptionForm {
+                name: "to",
+                value: OptionValue::Text,
+                value_name: "FOLDER",
+                help: "The folder of the files, which has to be there; a file with the same bytes is left, and any other refused",
+            },
+            LineOption::Only => OptionForm {
+                name: "name",
+                value: OptionValue::TextIfAny,
+                value_name: "NAME",
+                help: "The workunit whose output alone is written; without it, all are",
             },
             LineOption::Name => OptionForm {
                 name: "name",

@@ -1,5 +1,8 @@
 //! What the words of the command line ask for.
 
+ghost use Rattle.std.specs.Prelude.{◌≡◌};
+ghost use Rattle.wu_arguments.specs.Lines.{export_place};
+
 use crate::line::Line;
 use crate::word::Word;
 
@@ -12,13 +15,43 @@ pub struct ScriptFile {
     pub file: Word,
 }
 
-/// A backup: the database that is copied, and the file that is made.
+/// The outputs of archived workunits, each as a file of its own.
 #[derive(Drop)]
-pub struct BackupFiles {
+pub struct OutputFiles {
+    /// The folder of the files.
+    pub folder: Word,
+    /// The workunit whose output alone is kept; `None` for all.
+    pub name: Option<Word>,
+}
+
+/// What is made of a copy of a project.
+#[derive(Drop)]
+pub enum Export {
+    /// A backup, in a new file at this path.
+    Backup(Word),
+    /// The outputs of its archived workunits.
+    Outputs(OutputFiles),
+}
+
+impl Export {
+    /// Returns where it is made: the path of a file or of a folder.
+    pub fn place(&self) -> &str
+        // A backup has the path of its file, and outputs have that of their folder.
+        ensures { result.now ≡ export_place self.now }
+    {
+        match self {
+            Export::Backup(to) => to.as_str(),
+            Export::Outputs(files) => files.folder.as_str(),
+        }
+    }
+}
+
+/// An export: the database that is copied, and what is made of it.
+#[derive(Drop)]
+pub struct ExportOrder {
     /// The file that holds the project.
     pub db: Word,
-    /// The file that is made.
-    pub to: Word,
+    pub export: Export,
 }
 
 /// What is explained: a topic, of views and files with the name of one, or without a topic what topics there are.
@@ -39,8 +72,8 @@ pub enum Order {
     Session(Word),
     /// A check of the database at this path.
     Check(Word),
-    /// A copy of a sound project in a file of its own.
-    Backup(BackupFiles),
+    /// What is made of a copy of a sound project.
+    Export(ExportOrder),
     /// An explanation.
     Explain(Topic),
 }

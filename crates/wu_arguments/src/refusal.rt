@@ -3,12 +3,12 @@
 ghost use Rattle.std.specs.Prelude.{◌≡◌};
 ghost use Rattle.wu_core.specs.declared.fault.Fault.TheVariants as fault;
 ghost use Rattle.wu_arguments.specs.declared.refusal.Refusal.TheVariants as why;
-ghost use Rattle.wu_arguments.specs.Scripts.{backup_asked, repeated_refusal};
+ghost use Rattle.wu_arguments.specs.Scripts.{export_asked, repeated_refusal};
 ghost use Rattle.wu_arguments.specs.Statuses.{refusal_status};
 
+use crate::order::Export;
 use crate::status::fault_status;
 use crate::usage::Usage;
-use crate::word::Word;
 use std::alloc::AllocError;
 use wu_core::Fault;
 use wu_feed::LineCause;
@@ -19,8 +19,8 @@ pub enum Outsider {
     Script,
     Session,
     Check,
-    /// A backup, with the path of the file that is made. A session makes it.
-    Backup(Word),
+    /// What is made of a copy of the project. A session makes it.
+    Export(Export),
     Explanation,
 }
 
@@ -84,24 +84,24 @@ impl From<AllocError> for Refusal {
 }
 
 impl Refusal {
-    /// Returns where the file of a backup is to be made, if the refusal is that a line asks for one; else the refusal.
-    pub fn into_backup(self) -> Result<Word, Refusal>
-        // Only a line that asks for a backup has a path to make it at.
-        ensures { result ≡ backup_asked self }
+    /// Returns what is to be made of a copy, if the refusal is that a line asks for that; else the refusal.
+    pub fn into_export(self) -> Result<Export, Refusal>
+        // Only a line that asks for an export has one.
+        ensures { result ≡ export_asked self }
     {
         match self {
-            Refusal::Outsider(Outsider::Backup(to)) => Ok(to),
+            Refusal::Outsider(Outsider::Export(export)) => Ok(export),
             why => Err(why),
         }
     }
 
-    /// Returns the refusal of what was to be repeated: a backup is no pass.
+    /// Returns the refusal of what was to be repeated: an export is no pass.
     pub fn of_repeated(self) -> Refusal
-        // A backup is refused as what is no pass, and all else as it was.
+        // An export is refused as what is no pass, and all else as it was.
         ensures { result ≡ repeated_refusal self }
     {
         match self {
-            Refusal::Outsider(Outsider::Backup(_)) => Refusal::Repeat,
+            Refusal::Outsider(Outsider::Export(_)) => Refusal::Repeat,
             why => why,
         }
     }

@@ -49,7 +49,7 @@ fn line_of_words(alloc: Global, db: &str, words: Words) -> Result<Line, Refusal>
         Order::Script(_) => Err(Refusal::Outsider(Outsider::Script)),
         Order::Session(_) => Err(Refusal::Outsider(Outsider::Session)),
         Order::Check(_) => Err(Refusal::Outsider(Outsider::Check)),
-        Order::Backup(asked) => Err(Refusal::Outsider(Outsider::Backup(asked.to))),
+        Order::Export(asked) => Err(Refusal::Outsider(Outsider::Export(asked.export))),
         Order::Explain(_) => Err(Refusal::Outsider(Outsider::Explanation)),
     }
 }

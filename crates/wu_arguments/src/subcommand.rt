@@ -34,11 +34,12 @@ pub enum Subcommand {
     Session,
     Check,
     Backup,
+    Outputs,
     Explain,
 }
 
 /// All subcommands, in the order of help.
-pub const SUBCOMMANDS: [Subcommand; 19] = [
+pub const SUBCOMMANDS: [Subcommand; 20] = [
     Subcommand::Import(ImportKind::Batch),
     Subcommand::Import(ImportKind::Sent),
     Subcommand::Import(ImportKind::Reported),
@@ -57,6 +58,7 @@ pub const SUBCOMMANDS: [Subcommand; 19] = [
     Subcommand::Session,
     Subcommand::Check,
     Subcommand::Backup,
+    Subcommand::Outputs,
     Subcommand::Explain,
 ];
 
@@ -192,6 +194,12 @@ impl Subcommand {
                 about: "Check a copy of a project and write it into a new file, without a log; the project is not changed",
                 example: "Example: lintelthyme backup --db project.db --to backup.db",
             },
+            Subcommand::Outputs => SubcommandForm {
+                name: "outputs",
+                options: &[LineOption::Checked, LineOption::Folder, LineOption::Only],
+                about: "Check a copy of a project and write each archived canonical output into a file named for its workunit",
+                example: "Example: lintelthyme outputs --db project.db --to outputs",
+            },
             Subcommand::Explain => SubcommandForm {
                 name: "explain",
                 options: &[LineOption::Topic, LineOption::Detail],
@@ -203,7 +211,7 @@ impl Subcommand {
 
     /// Returns the subcommand of this name.
     pub fn named(name: &str) -> Option<Subcommand>
-        // Each of the nineteen names gives its subcommand, and any other text `None`.
+        // Each of the twenty names gives its subcommand, and any other text `None`.
         ensures { result ≡ subcommand_named name.now }
     {
         for one in SUBCOMMANDS {

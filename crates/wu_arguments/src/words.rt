@@ -8,7 +8,7 @@ ghost use Rattle.wu_arguments.specs.Refusals.{Explains, HasText, IsLacking, IsOr
 
 use crate::line::{Asking, Line};
 use crate::option::LineOption;
-use crate::order::{BackupFiles, Order, ScriptFile, Topic};
+use crate::order::{Export, ExportOrder, Order, OutputFiles, ScriptFile, Topic};
 use crate::parse::parse;
 use crate::subcommand::Subcommand;
 use crate::usage::Usage;
@@ -160,9 +160,23 @@ fn read_backup(alloc: Global, found: &ArgMatches<'_>) -> Result<Order, Usage>
     ensures order { IfOk result (IsOrder (rows_of (found_of found.now)) Subcommand.Backup) }
     ensures refused { IfErr result (IsLacking (rows_of (found_of found.now)) Subcommand.Backup) }
 {
-    Ok(Order::Backup(BackupFiles {
+    Ok(Order::Export(ExportOrder {
         db: text(alloc, found, LineOption::Checked)?,
-        to: text(alloc, found, LineOption::To)?,
+        export: Export::Backup(text(alloc, found, LineOption::To)?),
+    }))
+}
+
+/// Reads the database whose outputs are kept, the folder of the files, and which output alone is.
+fn read_outputs(alloc: Global, found: &ArgMatches<'_>) -> Result<Order, Usage>
+    ensures order { IfOk result (IsOrder (rows_of (found_of found.now)) Subcommand.Outputs) }
+    ensures refused { IfErr result (IsLacking (rows_of (found_of found.now)) Subcommand.Outputs) }
+{
+    Ok(Order::Export(ExportOrder {
+        db: text(alloc, found, LineOption::Checked)?,
+        export: Export::Outputs(OutputFiles {
+            folder: text(alloc, found, LineOption::Folder)?,
+            name: text_if_any(alloc, found, LineOption::Only)?,
+        }),
     }))
 }
 
@@ -198,6 +212,7 @@ fn order_of(alloc: Global, subcommand: Subcommand, found: &ArgMatches<'_>) -> Re
         Subcommand::Session => Ok(Order::Session(text(alloc, found, LineOption::Database)?)),
         Subcommand::Check => Ok(Order::Check(text(alloc, found, LineOption::Checked)?)),
         Subcommand::Backup => read_backup(alloc, found),
+        Subcommand::Outputs => read_outputs(alloc, found),
         Subcommand::Explain => read_topic(alloc, found),
     }
 }

@@ -19,7 +19,7 @@ use Rattle.wu_arguments.specs.declared.step.Step.{Step}
 use Rattle.wu_cli.specs.Performing.{Performs}
 use Rattle.wu_cli.specs.Repeating.{commands_of_steps, unrolled}
 use Rattle.wu_cli.specs.Scripting.{PerformsEach, PerformsSteps}
-use Rattle.wu_cli.specs.Backups.{SaysOfBackup}
+use Rattle.wu_cli.specs.Exports.{SaysOfExport}
 use Rattle.wu_cli.specs.Hearing.{Hears}
 use Rattle.wu_cli.specs.Answering.{is_cut}
 use Rattle.wu_cli.specs.Sessions.{Accepts, AnswersEach, AnswersHeard, DoesAsked, DoesHeard, ends_with, EndsInput, EndsSession, RunsSession}
@@ -79,34 +79,34 @@ module _ {S W : Type 0} {store : Ghosts S} (contents : W → Option (List ℕ)) 
       let opened = each_goes contents old until.mid out_old until.out_mid until.before until.each going in
       accepts_both until.mid new world front (one_accepts until.mid new until.out_mid out_new until.last.action (Some end.fault) until.ends opened still clean (fold_steps world (map request_of front.commands)) front.over)
 
-  module _ (gives : List ℕ → ℕ → Option (List ℕ) → Type 0) (backs_up : SaysOfBackup) (db : List ℕ) where
-    asked_clean : (old new : Project S store) (out_old out_new : W) (asked : Result (List Step) Refusal) (done : Result Bool LineTrouble) → DoesAsked contents gives backs_up db old new out_old out_new asked done → FaultsOnlyGrow (state_of old) (state_of new)
+  module _ (gives : List ℕ → ℕ → Option (List ℕ) → Type 0) (exports : SaysOfExport) (db : List ℕ) where
+    asked_clean : (old new : Project S store) (out_old out_new : W) (asked : Result (List Step) Refusal) (done : Result Bool LineTrouble) → DoesAsked contents gives exports db old new out_old out_new asked done → FaultsOnlyGrow (state_of old) (state_of new)
     asked_clean old new out_old out_new (Ok steps) done (end, does, is) = script_clean contents old new out_old out_new steps end does.does
     asked_clean old new out_old out_new (Err why) done (same, does) = subst (λ p. FaultsOnlyGrow (state_of old) (state_of p)) (sym same) (omega arith)
 
-    heard_clean : (old new : Project S store) (out_old out_new : W) (heard : Result (List ℕ) Refusal) (done : Result Bool LineTrouble) → DoesHeard contents gives backs_up db old new out_old out_new heard done → FaultsOnlyGrow (state_of old) (state_of new)
+    heard_clean : (old new : Project S store) (out_old out_new : W) (heard : Result (List ℕ) Refusal) (done : Result Bool LineTrouble) → DoesHeard contents gives exports db old new out_old out_new heard done → FaultsOnlyGrow (state_of old) (state_of new)
     heard_clean old new out_old out_new (Ok text) done (asked, given, does) = asked_clean old new out_old out_new asked done does
     heard_clean old new out_old out_new (Err why) done (is, same, unwritten) = subst (λ p. FaultsOnlyGrow (state_of old) (state_of p)) (sym same) (omega arith)
 
-    asked_accepts : (old new : Project S store) (out_old out_new : W) (asked : Result (List Step) Refusal) (done : Result Bool LineTrouble) → DoesAsked contents gives backs_up db old new out_old out_new asked done
+    asked_accepts : (old new : Project S store) (out_old out_new : W) (asked : Result (List Step) Refusal) (done : Result Bool LineTrouble) → DoesAsked contents gives exports db old new out_old out_new asked done
         → IsSessionOpen old → IsSessionOpen new → HasCleanDisk (state_of new) → (world : World) → IsOver old world → Accepts world new
     asked_accepts old new out_old out_new (Ok steps) done (end, does, is) going still clean world over =
         steps_accept old new out_old out_new (unrolled world steps) end (does.does.over going clean world (over_shows old world over)) going still clean world over
     asked_accepts old new out_old out_new (Err why) done (same, does) going still clean world over =
         subst (λ p. Accepts world p) (sym same) (accepts_none old world over)
 
-    heard_accepts : (old new : Project S store) (out_old out_new : W) (heard : Result (List ℕ) Refusal) (done : Result Bool LineTrouble) → DoesHeard contents gives backs_up db old new out_old out_new heard done
+    heard_accepts : (old new : Project S store) (out_old out_new : W) (heard : Result (List ℕ) Refusal) (done : Result Bool LineTrouble) → DoesHeard contents gives exports db old new out_old out_new heard done
         → IsSessionOpen old → IsSessionOpen new → HasCleanDisk (state_of new) → (world : World) → IsOver old world → Accepts world new
     heard_accepts old new out_old out_new (Ok text) done (asked, given, does) going still clean world over = asked_accepts old new out_old out_new asked done does going still clean world over
     heard_accepts old new out_old out_new (Err why) done (is, same, unwritten) going still clean world over = subst (λ p. Accepts world p) (sym same) (accepts_none old world over)
 
-    still_open : (old new : Project S store) (out_old out_new : W) (heard : Result (List ℕ) Refusal) → AnswersHeard contents gives backs_up db old new out_old out_new heard None → IsSessionOpen new
+    still_open : (old new : Project S store) (out_old out_new : W) (heard : Result (List ℕ) Refusal) → AnswersHeard contents gives exports db old new out_old out_new heard None → IsSessionOpen new
     still_open old new out_old out_new heard it = elim (cases_Bool (has_ended new)) [
       | inl over ↦ absurd (ends_never it.told it.done (is_cut it.done) refl (subst (λ b. ends_with it.told b it.done ≡ None) over (sym it.next)))
       | inr opened ↦ opened
     ]
 
-    answers_clean : (old new : Project S store) (out_old out_new : W) (heard : List (Result (List ℕ) Refusal)) → AnswersEach contents gives backs_up db old new out_old out_new heard → FaultsOnlyGrow (state_of old) (state_of new)
+    answers_clean : (old new : Project S store) (out_old out_new : W) (heard : List (Result (List ℕ) Refusal)) → AnswersEach contents gives exports db old new out_old out_new heard → FaultsOnlyGrow (state_of old) (state_of new)
     unfolding AnswersEach
     answers_clean old new out_old out_new [] each = subst (λ p. FaultsOnlyGrow (state_of old) (state_of p)) (sym each.0) (omega arith)
     answers_clean old new out_old out_new (one ∷ more) each =
@@ -115,7 +115,7 @@ module _ {S W : Type 0} {store : Ghosts S} (contents : W → Option (List ℕ)) 
         omega (arith, first, rest)
 
     -- What the lines of a session accept.
-    pub session_accepts : (old new : Project S store) (out_old out_new : W) (heard : List (Result (List ℕ) Refusal)) → AnswersEach contents gives backs_up db old new out_old out_new heard
+    pub session_accepts : (old new : Project S store) (out_old out_new : W) (heard : List (Result (List ℕ) Refusal)) → AnswersEach contents gives exports db old new out_old out_new heard
         → IsSessionOpen old → HasCleanDisk (state_of new) → (world : World) → IsOver old world → Accepts world new
     unfolding AnswersEach
     session_accepts old new out_old out_new [] each going clean world over = subst (λ p. Accepts world p) (sym each.0) (accepts_none old world over)
@@ -128,9 +128,9 @@ module _ {S W : Type 0} {store : Ghosts S} (contents : W → Option (List ℕ)) 
 
     -- So a session has run whose lines were heard and answered up to its end.
     pub runs_session : (old mid new : Project S store) (out_old out_mid out_new : W) (in_old in_mid in_new : Option (List ℕ)) (heard : List (Result (List ℕ) Refusal)) (status : ℕ)
-        → AnswersEach contents gives backs_up db old mid out_old out_mid heard → Hears in_old in_mid heard
-        → EndsInput contents gives backs_up db mid new out_mid out_new in_mid in_new status ⊎ EndsSession contents gives backs_up db mid new out_mid out_new in_mid in_new status
-        → RunsSession contents gives backs_up db old new out_old out_new in_old in_new status
+        → AnswersEach contents gives exports db old mid out_old out_mid heard → Hears in_old in_mid heard
+        → EndsInput contents gives exports db mid new out_mid out_new in_mid in_new status ⊎ EndsSession contents gives exports db mid new out_mid out_new in_mid in_new status
+        → RunsSession contents gives exports db old new out_old out_new in_old in_new status
     runs_session old mid new out_old out_mid out_new in_old in_mid in_new heard status each hears end = record {
       heard = heard;
       mid = mid;

@@ -7,3 +7,5 @@ pub mod WorkLemmas
 pub mod HearingLemmas
 pub mod SessionLemmas
 pub mod AcceptLemmas
+mod OutputLemmas
+pub mod TroubleLemmas

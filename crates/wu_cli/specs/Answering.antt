@@ -22,14 +22,14 @@ abbrev pub refused_text : Refusal → List ℕ
 refused_text (refusal.Words (usage.Refused text)) = first_line text ++ line_end
 refused_text why = refusal_text why
 
--- why a line was not done: its refusal, or why its backup is not made
+-- why a line was not done: its refusal, or why its export is not made
 abbrev pub cause_line : LineTrouble → List ℕ
 cause_line (line.Refused why) = refused_text why
-cause_line (line.Backup trouble) = trouble_text trouble
+cause_line (line.Export trouble) = trouble_text trouble
 
 abbrev pub line_trouble_status : LineTrouble → ℕ
 line_trouble_status (line.Refused why) = refusal_status why
-line_trouble_status (line.Backup trouble) = trouble_status trouble
+line_trouble_status (line.Export trouble) = trouble_status trouble
 
 -- The front of a line that reports why a line was not done, with its status.
 abbrev pub status_front : ℕ → List ℕ

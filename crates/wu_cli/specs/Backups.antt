@@ -1,4 +1,4 @@
--- What a backup asks of its copy, and what it reports.
+-- What a backup asks of its copy, and what it reports; why a file is not made.
 use Rattle.std.specs.Prelude.{◌≡◌, ℕ, List, ◌++◌, codes, IsOkUnless, Option, Result, Ok, Err}
 use Rattle.std.specs.Fmt.{decimal}
 use Rattle.std.specs.declared.io.ErrorKind.{ErrorKind}
@@ -38,32 +38,29 @@ pub record CountsSound {S : Type 0} (g : Ghosts S) (old new : Held S) (done : Re
   pub answered : AnswersUnlessFailed g old new verdict
   pub gives : AreOfVerdict verdict done
 
--- What is said of a backup: of the database at a path, with the file at another, this came.
-abbrev pub SaysOfBackup : Type 1
-SaysOfBackup = List ℕ → List ℕ → Result Counts Trouble → Type 0
-
 -- The line that reports a backup.
 abbrev pub backup_line : List ℕ → Counts → List ℕ
 backup_line to counts =
     codes "backup " ++ (to ++ (codes ": version=" ++ (decimal counts.version ++ (codes " workunits=" ++ (decimal counts.workunits ++ (codes " results=" ++ (decimal counts.results ++ line_end)))))))
 
--- The line of a backup goes out, or a prefix of it with `Output`.
-pub record ReportsBackup {W : Type 0} (contents : W → Option (List ℕ)) (to : List ℕ) (counts : Counts) (old new : W) (done : Result (Unit {0}) Trouble) : Type 0 where
-  pub line : WritesTo contents old new (backup_line to counts) done
-  pub fault : IsOkUnless done (trouble.Fault Output)
+-- The words for why a file is not made.
+abbrev pub unmade_words : Unmade → List ℕ
+unmade_words unmade.Taken = codes "something is there already"
+unmade_words unmade.OtherBytes = codes "something else is there already"
+unmade_words unmade.LogName = codes "its name is that of a log"
+unmade_words unmade.LogBeside = codes "a log lies beside it"
+unmade_words unmade.PartBeside = codes "a part of an earlier one lies beside it"
+unmade_words unmade.NoFolder = codes "its folder is not there"
+unmade_words unmade.FullDisk = codes "the disk is full"
+unmade_words unmade.Refused = codes "the file cannot be made"
+unmade_words unmade.Memory = codes "out of memory"
 
 -- The line that reports why the file of a backup is not made.
 abbrev pub unmade_line : Unmade → List ℕ
-unmade_line unmade.Taken = codes "cannot make the backup: something is there already" ++ line_end
-unmade_line unmade.LogName = codes "cannot make the backup: its name is that of a log" ++ line_end
-unmade_line unmade.LogBeside = codes "cannot make the backup: a log lies beside it" ++ line_end
-unmade_line unmade.PartBeside = codes "cannot make the backup: a part of an earlier one lies beside it" ++ line_end
-unmade_line unmade.NoFolder = codes "cannot make the backup: its folder is not there" ++ line_end
-unmade_line unmade.FullDisk = codes "cannot make the backup: the disk is full" ++ line_end
-unmade_line unmade.Refused = codes "cannot make the backup: the file cannot be made" ++ line_end
 unmade_line unmade.Memory = codes "F14 Memory" ++ line_end
+unmade_line why = codes "cannot make the backup: " ++ (unmade_words why ++ line_end)
 
--- The status of a backup whose file is not made: 4 for out of memory, 3 where the disk does not take the file, else 1.
+-- The status where a file is not made: 4 for out of memory, 3 where the disk does not take the file, else 1.
 abbrev pub unmade_status : Unmade → ℕ
 unmade_status unmade.Memory = 4
 unmade_status unmade.FullDisk = 3

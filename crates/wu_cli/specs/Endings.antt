@@ -9,6 +9,7 @@ use Rattle.wu_report.specs.Writing.{AppendsFront}
 use Rattle.std.specs.Fmt.{decimal}
 use Rattle.wu_feed.specs.declared.script.LineCause.{LineCause}
 use Rattle.wu_feed.specs.declared.script.LineCause.TheVariants as cause
+use Rattle.wu_arguments.specs.declared.order.Export.TheVariants as export
 use Rattle.wu_arguments.specs.declared.refusal.Outsider.{Outsider}
 use Rattle.wu_arguments.specs.declared.refusal.Outsider.TheVariants as outsider
 use Rattle.wu_arguments.specs.declared.refusal.Refusal.{Refusal}
@@ -55,7 +56,8 @@ abbrev pub outsider_line : Outsider → List ℕ
 outsider_line outsider.Script = codes "a script cannot stand in a script" ++ line_end
 outsider_line outsider.Session = codes "a session cannot stand in a script" ++ line_end
 outsider_line outsider.Check = codes "a check cannot stand in a script" ++ line_end
-outsider_line (outsider.Backup to) = codes "a backup cannot stand in a script" ++ line_end
+outsider_line (outsider.Export (export.Backup to)) = codes "a backup cannot stand in a script" ++ line_end
+outsider_line (outsider.Export (export.Outputs files)) = codes "outputs cannot stand in a script" ++ line_end
 outsider_line outsider.Explanation = codes "an explanation cannot stand in a script" ++ line_end
 
 abbrev pub refusal_text : Refusal → List ℕ

@@ -4,6 +4,8 @@ pub mod Checking
 pub mod Checks
 pub mod Endings
 pub mod Explaining
+pub mod Exports
+pub mod Outputs
 pub mod Performing
 pub mod Repeating
 pub mod Scripting

@@ -21,7 +21,9 @@ use Rattle.wu_passes.specs.Adopting.{Adopts, RefusesAdoption, TellsNew}
 use Rattle.wu_passes.specs.Projects.{connection_of, has_ended, is_new, IsOver, IsSessionOpen, KnowsTables, older_version, state_of}
 use Rattle.wu_report.specs.Texts.{line_end}
 use Rattle.wu_report.specs.Writing.{WritesTo}
-use Rattle.wu_arguments.specs.Scripts.{backup_asked}
+use Rattle.wu_arguments.specs.Lines.{export_place}
+use Rattle.wu_arguments.specs.Scripts.{export_asked}
+use Rattle.wu_arguments.specs.declared.order.Export.{Export}
 use Rattle.wu_arguments.specs.Statuses.{fault_status, refusal_status}
 use Rattle.wu_arguments.specs.Steps.{GivesSteps}
 use Rattle.wu_arguments.specs.declared.refusal.Refusal.{Refusal}
@@ -29,13 +31,13 @@ use Rattle.wu_arguments.specs.declared.refusal.Refusal.TheVariants as refusal
 use Rattle.wu_arguments.specs.declared.step.BadLine.{BadLine}
 use Rattle.wu_arguments.specs.declared.step.LineFault.{LineFault}
 use Rattle.wu_arguments.specs.declared.step.Step.{Step}
-use Rattle.wu_cli.specs.Backups.{backup_line, SaysOfBackup}
+use Rattle.wu_cli.specs.Exports.{exported_line, SaysOfExport}
 use Rattle.wu_cli.specs.Hearing.{Hears, IsUnread}
 use Rattle.wu_cli.specs.Answering.{end_text, is_cut, status_of_done}
 use Rattle.wu_cli.specs.Printing.{PrintsSteps}
 use Rattle.wu_cli.specs.Scripting.{PerformsScript}
 use Rattle.wu_cli.specs.Telling.{DrivesSteps, LengthensBySteps}
-use Rattle.wu_cli.specs.declared.backup.Counts.{Counts}
+use Rattle.wu_cli.specs.declared.export.Exported.{Exported}
 use Rattle.wu_cli.specs.declared.line_trouble.LineTrouble.{LineTrouble}
 use Rattle.wu_cli.specs.declared.line_trouble.LineTrouble.TheVariants as line
 use Rattle.wu_cli.specs.declared.trouble.Trouble.{Trouble}
@@ -56,7 +58,7 @@ abbrev pub done_of_steps : List Step → Option LineFault → Result Bool LineTr
 done_of_steps steps None = Ok (is_some (slice_get steps 0))
 done_of_steps steps (Some end) = Err (line.Refused (refusal.Fault end.fault))
 
--- How a line ended whose backup was reported so.
+-- How a line ended whose export was reported so.
 abbrev pub done_of_report : Result (Unit {0}) Fault → Result Bool LineTrouble
 done_of_report (Ok told) = Ok true
 done_of_report (Err fault) = Err (line.Refused (refusal.Fault fault))
@@ -74,27 +76,27 @@ module _ {S W : Type 0} {store : Ghosts S} (contents : W → Option (List ℕ)) 
   DoesStepsOfText old new out_old out_new steps done =
       (end : Option LineFault) × DoesSteps old new out_old out_new steps end × (done ≡ done_of_steps steps end)
 
-module _ {W : Type 0} (contents : W → Option (List ℕ)) (backs_up : SaysOfBackup) (db : List ℕ) where
-  -- the backup is reported with its numbers, or why it is not made is returned, and nothing goes out
-  abbrev pub ReportsMade : List ℕ → W → W → Result Counts Trouble → Result Bool LineTrouble → Type 0
-  ReportsMade to out_old out_new (Ok counts) done =
-      (told : Result (Unit {0}) Fault) × WritesTo contents out_old out_new (backup_line to counts) told × IsOkUnless told Output × (done ≡ done_of_report told)
-  ReportsMade to out_old out_new (Err trouble) done = (done ≡ Err (line.Backup trouble)) × (out_new ≡ out_old)
+module _ {W : Type 0} (contents : W → Option (List ℕ)) (exports : SaysOfExport) (db : List ℕ) where
+  -- the export is reported with its numbers, or why it is not made is returned, and nothing goes out
+  abbrev pub ReportsMade : Export → W → W → Result Exported Trouble → Result Bool LineTrouble → Type 0
+  ReportsMade export out_old out_new (Ok made) done =
+      (told : Result (Unit {0}) Fault) × WritesTo contents out_old out_new (exported_line (export_place export) made) told × IsOkUnless told Output × (done ≡ done_of_report told)
+  ReportsMade export out_old out_new (Err trouble) done = (done ≡ Err (line.Export trouble)) × (out_new ≡ out_old)
 
-  -- a backup is made of the database of the session, or it is not made
-  abbrev pub BacksUpTo : List ℕ → W → W → Result Bool LineTrouble → Type 0
-  BacksUpTo to out_old out_new done = (made : Result Counts Trouble) × backs_up db to made × ReportsMade to out_old out_new made done
+  -- an export is made of the database of the session, or it is not made
+  abbrev pub Exports : Export → W → W → Result Bool LineTrouble → Type 0
+  Exports export out_old out_new done = (made : Result Exported Trouble) × exports db export made × ReportsMade export out_old out_new made done
 
-  -- the backup that a line asks for is made; or the line is refused, and nothing goes out
-  abbrev pub DoesRefused : W → W → Result (List ℕ) Refusal → Result Bool LineTrouble → Type 0
-  DoesRefused out_old out_new (Ok to) done = BacksUpTo to out_old out_new done
+  -- the export that a line asks for is made; or the line is refused, and nothing goes out
+  abbrev pub DoesRefused : W → W → Result Export Refusal → Result Bool LineTrouble → Type 0
+  DoesRefused out_old out_new (Ok export) done = Exports export out_old out_new done
   DoesRefused out_old out_new (Err why) done = (done ≡ Err (line.Refused why)) × (out_new ≡ out_old)
 
-module _ {S W : Type 0} {store : Ghosts S} (contents : W → Option (List ℕ)) (gives : List ℕ → ℕ → Option (List ℕ) → Type 0) (backs_up : SaysOfBackup) (db : List ℕ) where
-  -- the steps that a text asks for are done; or its backup is made, or it cannot be run, and nothing is done
+module _ {S W : Type 0} {store : Ghosts S} (contents : W → Option (List ℕ)) (gives : List ℕ → ℕ → Option (List ℕ) → Type 0) (exports : SaysOfExport) (db : List ℕ) where
+  -- the steps that a text asks for are done; or its export is made, or it cannot be run, and nothing is done
   abbrev pub DoesAsked : Project S store → Project S store → W → W → Result (List Step) Refusal → Result Bool LineTrouble → Type 0
   DoesAsked old new out_old out_new (Ok steps) done = DoesStepsOfText contents old new out_old out_new steps done
-  DoesAsked old new out_old out_new (Err why) done = (new ≡ old) × DoesRefused contents backs_up db out_old out_new (backup_asked why) done
+  DoesAsked old new out_old out_new (Err why) done = (new ≡ old) × DoesRefused contents exports db out_old out_new (export_asked why) done
 
   abbrev pub DoesText : Project S store → Project S store → W → W → List ℕ → Result Bool LineTrouble → Type 0
   DoesText old new out_old out_new text done =
@@ -125,13 +127,13 @@ pub record Accepts {S : Type 0} {store : Ghosts S} (world : World) (new : Projec
 abbrev pub AcceptsOver : {S : Type 0} {store : Ghosts S} → Project S store → Project S store → Type 0
 AcceptsOver old new = IsSessionOpen old → HasCleanDisk (state_of new) → (world : World) → IsOver old world → Accepts world new
 
-module _ {S W : Type 0} {store : Ghosts S} (contents : W → Option (List ℕ)) (gives : List ℕ → ℕ → Option (List ℕ) → Type 0) (backs_up : SaysOfBackup) (db : List ℕ) where
+module _ {S W : Type 0} {store : Ghosts S} (contents : W → Option (List ℕ)) (gives : List ℕ → ℕ → Option (List ℕ) → Type 0) (exports : SaysOfExport) (db : List ℕ) where
   -- What was heard is done or refused, and then the line that ends its answer goes out, or a prefix of it if the output
   -- fails. The session goes on, or ends with a status.
   pub record AnswersHeard (old new : Project S store) (out_old out_new : W) (heard : Result (List ℕ) Refusal) (ends : Option ℕ) : Type 0 where
     pub done : Result Bool LineTrouble
     pub out_done : W
-    pub does : DoesHeard contents gives backs_up db old new out_old out_done heard done
+    pub does : DoesHeard contents gives exports db old new out_old out_done heard done
     pub told : Result (Unit {0}) Fault
     pub wrote : WritesTo contents out_done out_new (end_text done) told
     pub next : ends ≡ ends_with told (has_ended new) done
@@ -182,7 +184,7 @@ new_word is_new = if is_new then codes " new" else []
 abbrev pub ready_line : Option ℕ → Bool → List ℕ
 ready_line older is_new = codes "= ready version=" ++ decimal (unwrap_or older present_version) ++ new_word is_new ++ line_end
 
-module _ {S W : Type 0} {store : Ghosts S} (contents : W → Option (List ℕ)) (gives : List ℕ → ℕ → Option (List ℕ) → Type 0) (backs_up : SaysOfBackup) (db : List ℕ) where
+module _ {S W : Type 0} {store : Ghosts S} (contents : W → Option (List ℕ)) (gives : List ℕ → ℕ → Option (List ℕ) → Type 0) (exports : SaysOfExport) (db : List ℕ) where
   -- The session ends at once, and no line is read.
   pub record EndsUnread (old new : Project S store) (out_old out_new : W) (in_old in_new : Option (List ℕ)) (status : ℕ) : Type 0 where
     pub status_is : status ≡ fault_status Output
@@ -192,7 +194,7 @@ module _ {S W : Type 0} {store : Ghosts S} (contents : W → Option (List ℕ)) 
 
   -- If the first line went out, the lines of the input are answered; else the session ends at once.
   abbrev pub ServesIf : Result (Unit {0}) Fault → Project S store → Project S store → W → W → Option (List ℕ) → Option (List ℕ) → ℕ → Type 0
-  ServesIf (Ok told) old new out_old out_new in_old in_new status = RunsSession contents gives backs_up db old new out_old out_new in_old in_new status
+  ServesIf (Ok told) old new out_old out_new in_old in_new status = RunsSession contents gives exports db old new out_old out_new in_old in_new status
   ServesIf (Err fault) old new out_old out_new in_old in_new status = EndsUnread old new out_old out_new in_old in_new status
 
   -- The first line goes out, or a prefix of it, and then the lines of the input are answered.
@@ -202,7 +204,7 @@ module _ {S W : Type 0} {store : Ghosts S} (contents : W → Option (List ℕ)) 
     pub wrote : WritesTo contents out_old out_ready (ready_line (older_version old) (is_new old)) told
     pub serves : ServesIf told old new out_ready out_new in_old in_new status
 
-module _ {S W : Type 0} (g : StoreGhosts S) (contents : W → Option (List ℕ)) (gives : List ℕ → ℕ → Option (List ℕ) → Type 0) (backs_up : SaysOfBackup) (db : List ℕ) (conn again : Held S) (out_old out_new : W) (in_old in_new : Option (List ℕ)) where
+module _ {S W : Type 0} (g : StoreGhosts S) (contents : W → Option (List ℕ)) (gives : List ℕ → ℕ → Option (List ℕ) → Type 0) (exports : SaysOfExport) (db : List ℕ) (conn again : Held S) (out_old out_new : W) (in_old in_new : Option (List ℕ)) where
   -- The project is adopted, the lines of the input are answered over it, and the session is released.
   pub record ServesAdopted (status : ℕ) : Type 0 where
     pub old : Project S g
@@ -212,7 +214,7 @@ module _ {S W : Type 0} (g : StoreGhosts S) (contents : W → Option (List ℕ))
     pub adopts : Adopts (state g conn) (state_of old)
     pub knows : KnowsTables old
     pub new_is : TellsNew (state g conn) (state_of old) (is_new old)
-    pub serves : ServesProject contents gives backs_up db old new out_old out_new in_old in_new status
+    pub serves : ServesProject contents gives exports db old new out_old out_new in_old in_new status
     pub released : again ≡ connection_of new
 
   -- No project is adopted: that fault is reported, and nothing is done, read or written.

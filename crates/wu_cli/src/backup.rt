@@ -1,12 +1,12 @@
-//! What a backup asks of its copy, and what it reports.
+//! What a backup asks of its copy, and what it reports; why a file is not made.
 
 ghost use Rattle.std.specs.Prelude.{◌≡◌, IsOkUnless};
 ghost use Rattle.std.specs.IoError.{error_kind};
 ghost use Rattle.wu_core.specs.declared.fault.Fault.TheVariants.{Output};
 ghost use Rattle.wu_report.specs.Writing.{WritesTo};
-ghost use Rattle.wu_cli.specs.Backups.{backup_line, CountsSound, unmade_line, unmade_of, unmade_status};
+ghost use Rattle.wu_cli.specs.Backups.{backup_line, CountsSound, unmade_line, unmade_of, unmade_status, unmade_words};
 
-use crate::texts::write_flushed;
+use crate::texts::{line_of_fault, worded, write_flushed};
 use crate::trouble::Trouble;
 use sqlite::{Alter, Connection};
 use std::alloc::Global;
@@ -47,11 +47,13 @@ pub fn count_sound<S: Alter>(alloc: Global, conn: &mut Connection<S>) -> Result<
     }
 }
 
-/// Why the file of a backup is not made.
+/// Why the file of a backup, or of an output, is not made.
 #[derive(Clone, Copy, PartialEq, Eq)]
 pub enum Unmade {
     /// Something lies at its path.
     Taken,
+    /// A file with other bytes, or no file, lies at the path of an output.
+    OtherBytes,
     /// Its path is that of a log or a journal.
     LogName,
     /// A log or a journal lies beside its path.
@@ -93,43 +95,38 @@ impl Unmade {
         }
     }
 
-    /// Returns the line that reports the reason.
-    pub fn line(self) -> &'static str
-        // The line is the reason's one text.
-        ensures { result.now ≡ unmade_line self }
+    /// Returns the words for the reason, which end the line that reports it.
+    pub fn words(self) -> &'static str
+        // The words are the reason's one text.
+        ensures { result.now ≡ unmade_words self }
     {
         match self {
-            Unmade::Taken => "cannot make the backup: something is there already\n",
-            Unmade::LogName => "cannot make the backup: its name is that of a log\n",
-            Unmade::LogBeside => "cannot make the backup: a log lies beside it\n",
-            Unmade::PartBeside =>
-                "cannot make the backup: a part of an earlier one lies beside it\n",
-            Unmade::NoFolder => "cannot make the backup: its folder is not there\n",
-            Unmade::FullDisk => "cannot make the backup: the disk is full\n",
-            Unmade::Refused => "cannot make the backup: the file cannot be made\n",
-            Unmade::Memory => "F14 Memory\n",
+            Unmade::Taken => "something is there already",
+            Unmade::OtherBytes => "something else is there already",
+            Unmade::LogName => "its name is that of a log",
+            Unmade::LogBeside => "a log lies beside it",
+            Unmade::PartBeside => "a part of an earlier one lies beside it",
+            Unmade::NoFolder => "its folder is not there",
+            Unmade::FullDisk => "the disk is full",
+            Unmade::Refused => "the file cannot be made",
+            Unmade::Memory => "out of memory",
         }
     }
 }
 
-/// What makes a backup of a database that this process has open, between two of its commands.
-pub trait BackUp {
-    ghost use Rattle.std.specs.Prelude.{ℕ, List, Result};
-    ghost use Rattle.wu_cli.specs.declared.backup.Counts.{Counts};
-    ghost use Rattle.wu_cli.specs.declared.trouble.Trouble.{Trouble};
-
-    /// A backup of the database at this path, made at that one, may end so.
-    ghost backs_up: { Self → List ℕ → List ℕ → Result Counts Trouble → Type 0 };
-
-    /// Makes a file at a path where nothing lies, with a copy of the sound project in the database at `path`, and
-    /// returns its numbers. Else the trouble is why it is not made.
-    fn back_up(&self, path: &str, to: &str) -> Result<Counts, Trouble>
-        // What is made of the database at this path, and where, is as the trait's user says.
-        ensures { backs_up self.now path.now to.now result };
+/// Writes the line that reports why the file of a backup is not made, and flushes.
+pub(crate) fn line_of_unmade<W: Write>(out: &mut W, why: Unmade) -> Result<(), Fault>
+    // With Ok exactly the line of the reason is written, and else a prefix of it.
+    ensures { WritesTo W.contents out.old out.new (unmade_line why) result }
+{
+    match why {
+        Unmade::Memory => line_of_fault(out, Fault::Memory),
+        _ => worded(out, "cannot make the backup: ", why.words()),
+    }
 }
 
 /// Writes that a backup was made, with what its project has, and flushes.
-pub fn write_backed_up<W: Write>(out: &mut W, to: &str, counts: Counts) -> Result<(), Fault>
+pub(crate) fn write_backed_up<W: Write>(out: &mut W, to: &str, counts: Counts) -> Result<(), Fault>
     // With Ok exactly the line with the path and the three numbers is written, and else a prefix of
     // it.
     ensures bytes { WritesTo W.contents out.old out.new (backup_line to.now counts) result }

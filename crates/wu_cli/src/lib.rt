@@ -4,9 +4,11 @@
 mod backup;
 mod checking;
 mod explaining;
+mod export;
 mod findings;
 mod hearing;
 mod line_trouble;
+mod outputs;
 mod performing;
 mod reason;
 mod repeating;
@@ -16,10 +18,12 @@ mod texts;
 mod trouble;
 mod work;
 
-pub use backup::{BackUp, Counts, Unmade, count_sound, write_backed_up};
+pub use backup::{Counts, Unmade, count_sound};
 pub use checking::check_over;
 pub use explaining::explain;
+pub use export::{Exported, MakeExport, write_exported};
 pub use line_trouble::LineTrouble;
+pub use outputs::{KeepFile, Kept, KeptCounts, LostOutput, keep_sound};
 pub use performing::{perform, perform_script};
 pub use reason::Reason;
 pub use serving::serve_over;

@@ -14,8 +14,8 @@ use wu_core::Fault;
 pub enum LineTrouble {
     /// It is no line, or it is refused, or it failed with a fault.
     Refused(Refusal),
-    /// The backup that it asks for is not made.
-    Backup(Trouble),
+    /// The export that it asks for is not made.
+    Export(Trouble),
 }
 
 // It is written out, so that a caller does not prove again how each part is dropped.
@@ -23,7 +23,7 @@ impl Drop for LineTrouble {
     fn drop(self) {
         match self {
             LineTrouble::Refused(_why) => {}
-            LineTrouble::Backup(_trouble) => {}
+            LineTrouble::Export(_trouble) => {}
         }
     }
 }
@@ -62,12 +62,12 @@ impl LineTrouble {
 
     /// Returns the status that answers the line, which is that of the refusal or the trouble.
     pub fn status(&self) -> u8
-        // The status is that of the refusal, or of why there is no backup.
+        // The status is that of the refusal, or of why there is no export.
         ensures { result ≡ line_trouble_status self.now }
     {
         match self {
             LineTrouble::Refused(why) => why.status(),
-            LineTrouble::Backup(trouble) => trouble.status(),
+            LineTrouble::Export(trouble) => trouble.status(),
         }
     }
 
@@ -78,7 +78,7 @@ impl LineTrouble {
     {
         match self {
             LineTrouble::Refused(why) => write_refused(out, why),
-            LineTrouble::Backup(trouble) => write_trouble(trouble, out),
+            LineTrouble::Export(trouble) => write_trouble(trouble, out),
         }
     }
 }

@@ -4,7 +4,7 @@ ghost use Rattle.wu_report.specs.Writing.{WritesTo};
 ghost use Rattle.wu_passes.specs.Projects.{older_version};
 ghost use Rattle.wu_cli.specs.Sessions.{ready_line, ServesOver, ServesProject};
 
-use crate::backup::BackUp;
+use crate::export::MakeExport;
 use crate::session::serve;
 use crate::texts::write_flushed;
 use crate::trouble::Trouble;
@@ -38,7 +38,7 @@ fn write_ready<W: Write>(out: &mut W, older: Option<u64>, is_new: bool) -> Resul
 }
 
 /// Reports that the project is ready, and answers the lines of the input over it. Returns the status to end with.
-fn serve_project<S: Alter, R: BufRead, F: ReadFile + BackUp, W: Write, E: Write>(
+fn serve_project<S: Alter, R: BufRead, F: ReadFile + MakeExport, W: Write, E: Write>(
     alloc: Global,
     project: &mut Project<S>,
     db: &str,
@@ -48,7 +48,7 @@ fn serve_project<S: Alter, R: BufRead, F: ReadFile + BackUp, W: Write, E: Write>
     err: &mut E,
 ) -> u8
     ensures { ServesProject W.contents (F.ReadFile.gives files.now)
-        (F.BackUp.backs_up files.now) db.now
+        (F.MakeExport.exports files.now) db.now
         project.old project.new out.old out.new
         (R.remaining input.old) (R.remaining input.new) result }
 {
@@ -60,7 +60,7 @@ fn serve_project<S: Alter, R: BufRead, F: ReadFile + BackUp, W: Write, E: Write>
 
 /// Adopts the project in an open database, answers the lines of the input over it, and gives the database back, with the
 /// status to end with. Where nothing is adopted, no line is read and nothing is written, and the trouble is why.
-pub fn serve_over<S: Alter, R: BufRead, F: ReadFile + BackUp, W: Write, E: Write>(
+pub fn serve_over<S: Alter, R: BufRead, F: ReadFile + MakeExport, W: Write, E: Write>(
     alloc: Global,
     conn: Connection<S>,
     db: &str,
@@ -72,7 +72,7 @@ pub fn serve_over<S: Alter, R: BufRead, F: ReadFile + BackUp, W: Write, E: Write
     // The project is adopted, and the lines are answered over it; or none is adopted, no line is
     // read, and nothing goes out.
     ensures { ServesOver S.Store W.contents (F.ReadFile.gives files.now)
-        (F.BackUp.backs_up files.now) db.now
+        (F.MakeExport.exports files.now) db.now
         conn result.0 out.old out.new
         (R.remaining input.old) (R.remaining input.new) result.1 }
 {

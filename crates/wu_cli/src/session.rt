@@ -4,9 +4,9 @@ ghost use Rattle.std.specs.Prelude.{◌≡◌, ℕ, List, Option};
 ghost use Rattle.wu_report.specs.Writing.{WritesTo};
 ghost use Rattle.wu_cli.specs.Hearing.{heard_text, IsUnread};
 ghost use Rattle.wu_cli.specs.Answering.{end_text, is_cut, status_front, status_of_done, undone_line};
-ghost use Rattle.wu_cli.specs.Sessions.{AnswersHeard, BacksUpTo, DoesHeard, DoesRefused, DoesStepsOfText, DoesText, ends_with, EndsSession, RunsSession, StepsOfText};
+ghost use Rattle.wu_cli.specs.Sessions.{AnswersHeard, DoesHeard, DoesRefused, DoesStepsOfText, DoesText, ends_with, EndsSession, Exports, RunsSession, StepsOfText};
 
-use crate::backup::{BackUp, write_backed_up};
+use crate::export::{MakeExport, write_exported};
 use crate::hearing::{Heard, hear, unreadable};
 use crate::line_trouble::LineTrouble;
 use crate::performing::perform_script;
@@ -14,7 +14,7 @@ use crate::texts::write_line;
 use sqlite::Alter;
 use std::alloc::Global;
 use std::io::{BufRead, Write};
-use wu_arguments::{ReadFile, Refusal, Step, Usage, Word, fault_status, steps_of};
+use wu_arguments::{Export, ReadFile, Refusal, Step, Usage, fault_status, steps_of};
 use wu_core::Fault;
 use wu_drive::Project;
 use wu_feed::{Rows, read_script};
@@ -98,44 +98,44 @@ fn do_steps<S: Alter, W: Write>(
     }
 }
 
-/// Makes the backup that a line asks for, and reports it. Returns that the line has a command.
-fn back_up_to<F: BackUp, W: Write>(
+/// Makes what a line asks for of a copy of the project, and reports it. Returns that the line has a command.
+fn export_to<F: MakeExport, W: Write>(
     db: &str,
-    to: &str,
+    export: &Export,
     files: &F,
     out: &mut W,
 ) -> Result<bool, LineTrouble>
-    ensures { BacksUpTo W.contents (F.BackUp.backs_up files.now) db.now to.now
+    ensures { Exports W.contents (F.MakeExport.exports files.now) db.now export.now
         out.old out.new result }
 {
-    match files.back_up(db, to) {
-        Ok(counts) => match write_backed_up(out, to, counts) {
+    match files.export(db, export) {
+        Ok(made) => match write_exported(out, export.place(), made) {
             Ok(()) => Ok(true),
             Err(fault) => Err(LineTrouble::Refused(Refusal::Fault(fault))),
         },
-        Err(trouble) => Err(LineTrouble::Backup(trouble)),
+        Err(trouble) => Err(LineTrouble::Export(trouble)),
     }
 }
 
-/// Makes the backup that a line asks for, or returns why the line is refused.
-fn do_refused<F: BackUp, W: Write>(
+/// Makes the export that a line asks for, or returns why the line is refused.
+fn do_refused<F: MakeExport, W: Write>(
     db: &str,
-    asked: Result<Word, Refusal>,
+    asked: Result<Export, Refusal>,
     files: &F,
     out: &mut W,
 ) -> Result<bool, LineTrouble>
-    ensures { DoesRefused W.contents (F.BackUp.backs_up files.now) db.now
+    ensures { DoesRefused W.contents (F.MakeExport.exports files.now) db.now
         out.old out.new asked result }
 {
     match asked {
-        Ok(to) => back_up_to(db, to.as_str(), files, out),
+        Ok(export) => export_to(db, &export, files, out),
         Err(why) => Err(LineTrouble::Refused(why)),
     }
 }
 
-/// Does what the text of a line asks for, up to the first fault, or makes the backup that it asks for. Returns whether
+/// Does what the text of a line asks for, up to the first fault, or makes the export that it asks for. Returns whether
 /// it has a command.
-pub fn do_text<S: Alter, F: ReadFile + BackUp, W: Write>(
+pub fn do_text<S: Alter, F: ReadFile + MakeExport, W: Write>(
     alloc: Global,
     project: &mut Project<S>,
     db: &str,
@@ -143,21 +143,21 @@ pub fn do_text<S: Alter, F: ReadFile + BackUp, W: Write>(
     files: &F,
     out: &mut W,
 ) -> Result<bool, LineTrouble>
-    // The steps of the text are done, with what they print, up to the first fault; or its backup is
+    // The steps of the text are done, with what they print, up to the first fault; or its export is
     // made and reported; or it cannot be run, and nothing is done or goes out.
     ensures { DoesText W.contents (F.ReadFile.gives files.now)
-        (F.BackUp.backs_up files.now) db.now
+        (F.MakeExport.exports files.now) db.now
         project.old project.new out.old out.new text.now result }
 {
     match steps_of_text(alloc, db, text, files) {
         Ok(steps) => do_steps(alloc, project, steps.as_slice(), out),
-        // A backup is no step of a script.
-        Err(why) => do_refused(db, why.into_backup(), files, out),
+        // An export is no step of a script.
+        Err(why) => do_refused(db, why.into_export(), files, out),
     }
 }
 
 /// Does what was heard: the text of a line, or nothing where none could be had. Returns whether it has a command.
-fn do_heard<S: Alter, F: ReadFile + BackUp, W: Write>(
+fn do_heard<S: Alter, F: ReadFile + MakeExport, W: Write>(
     alloc: Global,
     project: &mut Project<S>,
     db: &str,
@@ -166,7 +166,7 @@ fn do_heard<S: Alter, F: ReadFile + BackUp, W: Write>(
     out: &mut W,
 ) -> Result<bool, LineTrouble>
     ensures { DoesHeard W.contents (F.ReadFile.gives files.now)
-        (F.BackUp.backs_up files.now) db.now
+        (F.MakeExport.exports files.now) db.now
         project.old project.new out.old out.new (heard_text heard) result }
 {
     match heard {
@@ -210,7 +210,7 @@ fn write_usage<E: Write>(err: &mut E, done: &Result<bool, LineTrouble>) {
 }
 
 /// Does what was heard, and answers it. Returns the status with which the session ends, or `None` if it goes on.
-pub fn answer<S: Alter, F: ReadFile + BackUp, W: Write, E: Write>(
+pub fn answer<S: Alter, F: ReadFile + MakeExport, W: Write, E: Write>(
     alloc: Global,
     project: &mut Project<S>,
     db: &str,
@@ -221,7 +221,7 @@ pub fn answer<S: Alter, F: ReadFile + BackUp, W: Write, E: Write>(
 ) -> Option<u8>
     // What was heard is done or refused, and then the line that ends its answer goes out.
     ensures { AnswersHeard W.contents (F.ReadFile.gives files.now)
-        (F.BackUp.backs_up files.now) db.now
+        (F.MakeExport.exports files.now) db.now
         project.old project.new out.old out.new (heard_text heard) result }
 {
     let done = do_heard(alloc, project, db, heard, files, out);
@@ -231,7 +231,7 @@ pub fn answer<S: Alter, F: ReadFile + BackUp, W: Write, E: Write>(
 }
 
 /// Answers that the input cannot be read further. Returns the status to end with.
-fn end_unread<S: Alter, F: ReadFile + BackUp, W: Write, E: Write>(
+fn end_unread<S: Alter, F: ReadFile + MakeExport, W: Write, E: Write>(
     alloc: Global,
     project: &mut Project<S>,
     db: &str,
@@ -243,7 +243,7 @@ fn end_unread<S: Alter, F: ReadFile + BackUp, W: Write, E: Write>(
     requires { IsUnread why }
     ensures { (in_old in_new : Option (List ℕ))
         → EndsSession W.contents (F.ReadFile.gives files.now)
-        (F.BackUp.backs_up files.now) db.now
+        (F.MakeExport.exports files.now) db.now
         project.old project.new out.old out.new in_old in_new result }
 {
     let status = why.status();
@@ -253,7 +253,7 @@ fn end_unread<S: Alter, F: ReadFile + BackUp, W: Write, E: Write>(
 /// Reads lines one after another, does each and answers it before the next one is read. It ends at the end of the input,
 /// with status 0; where the input cannot be read; where an output fails, with status 5; and where the project's session
 /// ended, with the status of that line. Returns the status to end with.
-pub fn serve<S: Alter, R: BufRead, F: ReadFile + BackUp, W: Write, E: Write>(
+pub fn serve<S: Alter, R: BufRead, F: ReadFile + MakeExport, W: Write, E: Write>(
     alloc: Global,
     project: &mut Project<S>,
     db: &str,
@@ -265,7 +265,7 @@ pub fn serve<S: Alter, R: BufRead, F: ReadFile + BackUp, W: Write, E: Write>(
     // The lines of the input are done and answered, in order, each over what the one before it
     // left; none is left out, and none is done twice.
     ensures { RunsSession W.contents (F.ReadFile.gives files.now)
-        (F.BackUp.backs_up files.now) db.now
+        (F.MakeExport.exports files.now) db.now
         project.old project.new out.old out.new
         (R.remaining input.old) (R.remaining input.new) result }
 {

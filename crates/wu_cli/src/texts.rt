@@ -8,7 +8,7 @@ ghost use Rattle.wu_report.specs.Writing.{piece_text, WritesTo};
 ghost use Rattle.wu_cli.specs.Endings.{bad_line_text, cause_text, fault_line, line_fault_text, line_front, outsider_line, refusal_text, usage_text, WritesAll};
 
 use std::io::Write;
-use wu_arguments::{BadLine, LineFault, Outsider, Refusal, Usage};
+use wu_arguments::{BadLine, Export, LineFault, Outsider, Refusal, Usage};
 use wu_core::Fault;
 use wu_feed::LineCause;
 use wu_report::{Piece, flush, write_pieces};
@@ -44,7 +44,8 @@ pub(crate) fn write_line<W: Write>(out: &mut W, text: &str) -> Result<(), Fault>
 }
 
 /// Writes a line that ends in a word.
-fn worded<'a, W: Write>(out: &mut W, text: &'a str, word: &'a str) -> Result<(), Fault>
+pub(crate) fn worded<'a, W: Write>(out: &mut W, text: &'a str, word: &'a str) -> Result<(), Fault>
+    // With Ok exactly the text and the word are written as a line, and else a prefix of it.
     ensures { WritesTo W.contents out.old out.new (text.now ++ word.now ++ line_end) result }
 {
     write_flushed(
@@ -175,7 +176,8 @@ fn outsider_line(outsider: &Outsider) -> &'static str
         Outsider::Script => "a script cannot stand in a script\n",
         Outsider::Session => "a session cannot stand in a script\n",
         Outsider::Check => "a check cannot stand in a script\n",
-        Outsider::Backup(_) => "a backup cannot stand in a script\n",
+        Outsider::Export(Export::Backup(_)) => "a backup cannot stand in a script\n",
+        Outsider::Export(Export::Outputs(_)) => "outputs cannot stand in a script\n",
         Outsider::Explanation => "an explanation cannot stand in a script\n",
     }
 }

@@ -9,8 +9,9 @@ ghost use Rattle.wu_report.specs.Writing.{WritesTo};
 ghost use Rattle.std.specs.IoError.{error_kind};
 ghost use Rattle.wu_schema.specs.Faults.{fault_of};
 
-use crate::backup::Unmade;
+use crate::backup::{Unmade, line_of_unmade};
 use crate::findings::line_of_finding;
+use crate::outputs::{LostOutput, line_of_lost};
 use crate::reason::Reason;
 use crate::texts::{
     line_of_bad_line, line_of_fault, line_of_line_fault, text_of_usage, write_line, write_text,
@@ -25,6 +26,9 @@ use wu_schema::fault_of;
 
 /// The status of a check that finds no sound project.
 const UNSOUND: u8 = 1;
+
+/// The status of outputs whose folder is not there.
+const NO_FOLDER: u8 = 1;
 
 /// What ends a run of the program before all of it is done.
 #[derive(Drop)]
@@ -45,6 +49,10 @@ pub enum Trouble {
     Unsound(Finding),
     /// The file of a backup is not made.
     Unmade(Unmade),
+    /// The folder of outputs is not there.
+    NoFolder,
+    /// The output of an archived workunit has no file.
+    Lost(LostOutput),
 }
 
 impl From<Usage> for Trouble {
@@ -111,6 +119,8 @@ impl Trouble {
             Trouble::Unchecked(reason) => reason.status(),
             Trouble::Unsound(_) => UNSOUND,
             Trouble::Unmade(why) => why.status(),
+            Trouble::NoFolder => NO_FOLDER,
+            Trouble::Lost(lost) => lost.why.status(),
         }
     }
 
@@ -140,7 +150,9 @@ pub(crate) fn write_trouble<E: Write>(trouble: &Trouble, err: &mut E) -> Result<
         Trouble::LineFault(end) => line_of_line_fault(err, *end),
         Trouble::Unchecked(reason) => write_text(err, reason.line()),
         Trouble::Unsound(finding) => line_of_finding(err, finding),
-        Trouble::Unmade(why) => write_text(err, why.line()),
+        Trouble::Unmade(why) => line_of_unmade(err, *why),
+        Trouble::NoFolder => write_line(err, "cannot write the outputs: the folder is not there"),
+        Trouble::Lost(lost) => line_of_lost(err, *lost),
     }
 }
 

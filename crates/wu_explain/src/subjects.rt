@@ -27,6 +27,7 @@ pub fn subject_text<'a>(name: &str) -> Option<&'a str>
   scripts       many commands in one opening
   checks        whether a database holds a sound project
   backups       a copy of a project in a file of its own
+  outputs       the outputs of finished jobs as files
 Faults, causes and words of skipped rows are taken as they are printed.
 ",
         ),
@@ -169,6 +170,22 @@ the file. While another process has the project, there is no backup of it; a lin
   backup --to FILE
 of a session makes one between two commands. After a crash FILE is there whole or
 not at all; a FILE-part that is left may be removed.
+",
+        ),
+        "outputs" => Some(
+            "The outputs of finished jobs as files
+lintelthyme outputs --db PATH --to FOLDER reads a project as a check does, and
+writes each archived canonical output into a file of FOLDER with the name of its
+workunit; with --name NAME, that of this workunit alone. It answers
+  outputs FOLDER: made=2 there=1
+where one file of three was there already, with the same bytes. Anything else in a
+file's place is told with the number of the workunit, with status 1, and a disk that
+takes no more with 3; the files before it stay. FOLDER has to be there. While another
+process has the project, there are no outputs of it; a line
+  outputs --to FOLDER
+of a session writes them between two commands. Of a run that was stopped a NAME+part
+may be left, which the next one replaces. The project keeps each output: where the
+power failed during a run, empty FOLDER and run it again.
 ",
         ),
         _ => None,

@@ -4,8 +4,8 @@ use anyhow::{Result, bail};
 use sqlite::{Alter, Connection};
 use std::fs;
 use std::io::{self, Write};
-use wu_arguments::{Action, BadLine, ReadFile, Refusal, Step, steps_of};
-use wu_cli::{BackUp, Counts, Trouble, serve_over, write_refusal};
+use wu_arguments::{Action, BadLine, Export, ReadFile, Refusal, Step, steps_of};
+use wu_cli::{Counts, Exported, KeptCounts, MakeExport, Trouble, serve_over, write_refusal};
 use wu_core::Fault;
 use wu_feed::{Rows, ScriptLine, read_script};
 
@@ -28,18 +28,21 @@ impl ReadFile for PlayFiles<'_> {
     }
 }
 
-// A backup of a database that lies in memory: nothing is copied, and its line is that of an empty project.
-impl BackUp for PlayFiles<'_> {
+// An export of a database that lies in memory: nothing is copied, and its line is that of an empty project.
+impl MakeExport for PlayFiles<'_> {
     ghost use Rattle.std.specs.Prelude.{⊤};
 
-    ghost backs_up = { λ _ _ _ _. ⊤ };
+    ghost exports = { λ _ _ _ _. ⊤ };
 
-    fn back_up(&self, _path: &str, _to: &str) -> std::result::Result<Counts, Trouble> {
-        Ok(Counts {
-            version: 3,
-            workunits: 0,
-            results: 0,
-        })
+    fn export(&self, _path: &str, export: &Export) -> std::result::Result<Exported, Trouble> {
+        match export {
+            Export::Backup(_) => Ok(Exported::Backup(Counts {
+                version: 3,
+                workunits: 0,
+                results: 0,
+            })),
+            Export::Outputs(_) => Ok(Exported::Outputs(KeptCounts { made: 0, there: 0 })),
+        }
     }
 }
 

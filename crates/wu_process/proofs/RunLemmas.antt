@@ -1,6 +1,6 @@
 -- How a run ends.
-use Rattle.std.proofs.Common.{◌≡◌, ℕ, List, Option, Some, None, Result, Ok, Err, ap, inl, inr, refl, subst, sym}
-use Rattle.std.specs.Prelude.{◌⊎◌, IsErrAnd}
+use Rattle.std.proofs.Common.{◌≡◌, ℕ, List, Option, Some, None, Result, Ok, Err, inl, inr, refl, subst, sym}
+use Rattle.std.specs.Prelude.{◌⊎◌}
 use Rattle.sqlite_disk.specs.declared.Disk.{Ghosts}
 use Rattle.sqlite_disk.specs.declared.calls.Calls as calls
 use Rattle.sqlite_disk.specs.declared.modelled.Modelled.{Modelled}
@@ -18,11 +18,6 @@ use Rattle.wu_process.specs.declared.Ran.{Ran}
 use Rattle.wu_process.specs.declared.Ran.TheVariants as ran
 use Rattle.wu_process.specs.declared.database.LeftDatabase.{LeftDatabase}
 use Rattle.wu_process.specs.declared.database.LeftDatabase.TheVariants as left
-
--- a trouble that is handed on is that trouble
-pub handed_on : {T : Type 0} (done : Result T Trouble) (told : Trouble) → IsErrAnd done (λ other. other ≡ told) → done ≡ Err told
-handed_on (Ok it) told same = absurd same
-handed_on (Err other) told same = ap Err same
 
 -- a database that was opened is left closed, or unclosed
 pub does_opened : {S W : Type 0} {c : calls.Ghosts Host} {s : start.Ghosts S} {g : Ghosts (Modelled Host S c s)} (contents : W → Option (List ℕ)) (path : List ℕ) (work : Work) (old new : W)

@@ -1,6 +1,6 @@
 -- A backup of a database, from its path to the new file. The files are copied, and the copy is checked and closed, so
 -- that its one file holds the project without a log.
-use Rattle.std.specs.Prelude.{◌≡◌, ◌⊎◌, ℕ, List, MatchResult, Option, Result, Ok, Err, ⊤}
+use Rattle.std.specs.Prelude.{◌≡◌, ◌⊎◌, ℕ, List, MatchResult, Result, Ok, Err, ⊤}
 use Rattle.sqlite_disk.specs.Memory.{memory_bytes}
 use Rattle.sqlite_disk.specs.declared.Disk.{Ghosts}
 use Rattle.sqlite_disk.specs.declared.Files.{Files}
@@ -10,7 +10,7 @@ use Rattle.sqlite.specs.Files.{FailsToOpenFiles, IsCleanLeft, over_files}
 use Rattle.sqlite.specs.Held.{Held}
 use Rattle.sqlite.specs.declared.error.Error.{Error}
 use Rattle.sqlite.specs.declared.file.Leftover.{Leftover}
-use Rattle.wu_cli.specs.Backups.{CountsSound, ReportsBackup, SaysOfBackup}
+use Rattle.wu_cli.specs.Backups.{CountsSound}
 use Rattle.wu_cli.specs.Checks.{reason_of_copy}
 use Rattle.wu_cli.specs.declared.backup.Counts.{Counts}
 use Rattle.wu_cli.specs.declared.backup.Unmade.{Unmade}
@@ -80,17 +80,5 @@ module _ (makes : List ℕ → List ℕ → Type 0) where
   IsUnbegun made = ((reason : Reason) × (made ≡ Err (trouble.Unchecked reason))) ⊎ ((why : Unmade) × (made ≡ Err (trouble.Unmade why)))
 
   -- A new file is made of the database at the path, or it is not made.
-  abbrev pub MakesBackup : SaysOfBackup
+  abbrev pub MakesBackup : List ℕ → List ℕ → Result Counts Trouble → Type 0
   MakesBackup path to made = MakesOfCopy path to made ⊎ IsUnbegun made
-
-module _ {W : Type 0} (contents : W → Option (List ℕ)) where
-  -- The line of a backup that was made goes out, or a prefix of it with `Output`. Of one that was not the trouble is
-  -- returned, and nothing goes out.
-  abbrev pub TellsMade : List ℕ → Result Counts Trouble → W → W → Result (Unit {0}) Trouble → Type 0
-  TellsMade to (Ok counts) old new done = ReportsBackup contents to counts old new done
-  TellsMade to (Err told) old new done = (done ≡ Err told) × (new ≡ old)
-
-module _ {W : Type 0} (makes : List ℕ → List ℕ → Type 0) (contents : W → Option (List ℕ)) where
-  -- A backup is made of the database at the path, and reported; or it is not made.
-  abbrev pub BacksUp : List ℕ → List ℕ → W → W → Result (Unit {0}) Trouble → Type 0
-  BacksUp path to old new done = (made : Result Counts Trouble) × MakesBackup makes path to made × TellsMade contents to made old new done

@@ -1,5 +1,7 @@
 pub mod Asking
 pub mod Backups
+pub mod Exports
+pub mod Outputs
 pub mod Checks
 pub mod Closing
 pub mod Copies

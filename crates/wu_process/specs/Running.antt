@@ -13,7 +13,7 @@ use Rattle.sqlite.specs.declared.error.Error.{Error}
 use Rattle.sqlite.specs.declared.file.Leftover.{Leftover}
 use Rattle.wu_schema.specs.Faults.{fault_of}
 use Rattle.wu_arguments.specs.Refusals.{IsOrderOf}
-use Rattle.wu_arguments.specs.declared.order.BackupFiles.{BackupFiles}
+use Rattle.wu_arguments.specs.declared.order.ExportOrder.{ExportOrder}
 use Rattle.wu_arguments.specs.declared.order.Order.{Order}
 use Rattle.wu_arguments.specs.declared.order.Order.TheVariants as order
 use Rattle.wu_arguments.specs.declared.order.Topic.{Topic}
@@ -25,9 +25,10 @@ use Rattle.wu_cli.specs.Working.{DoesOver, DrivesOver}
 use Rattle.wu_cli.specs.declared.trouble.Trouble.{Trouble}
 use Rattle.wu_cli.specs.declared.work.Work.{Work}
 use Rattle.wu_process.specs.Asking.{AsksFor, database_in, RefusesWords}
-use Rattle.wu_process.specs.Backups.{BacksUp, may_become}
+use Rattle.wu_process.specs.Backups.{may_become}
 use Rattle.wu_process.specs.Checks.{ChecksPath}
 use Rattle.wu_process.specs.Closing.{IsLeftByClose}
+use Rattle.wu_process.specs.Exports.{Exports}
 use Rattle.wu_process.specs.Opening.{IsBar, IsOpenedAt, IsUnopened}
 use Rattle.wu_process.specs.declared.database.LeftDatabase.{LeftDatabase}
 use Rattle.wu_process.specs.declared.database.LeftDatabase.TheVariants as left
@@ -73,11 +74,11 @@ pub record RunsNothing {W : Type 0} (words : List (List ℕ)) (old new : W) (don
   pub unwritten : new ≡ old
 
 module _ {W : Type 0} (contents : W → Option (List ℕ)) where
-  -- The words ask for a check, for a backup, or for an explanation.
+  -- The words ask for a check, for what is made of a copy, or for an explanation.
   abbrev pub RunsAside : List (List ℕ) → W → W → Result (Unit {0}) Trouble → Type 0
   RunsAside words old new done =
       ((path : List ℕ) × IsOrderOf words (order.Check path) × ChecksPath contents path old new done)
-      ⊎ (((files : BackupFiles) × IsOrderOf words (order.Backup files) × BacksUp may_become contents files.db files.to old new done)
+      ⊎ (((it : ExportOrder) × IsOrderOf words (order.Export it) × Exports may_become may_become contents it.db it.export old new done)
       ⊎ ((topic : Topic) × IsOrderOf words (order.Explain topic) × ExplainsTopic contents old new done))
 
 module _ {S W : Type 0} {c : calls.Ghosts Host} {s : start.Ghosts S} {g : Ghosts (Modelled Host S c s)} (contents : W → Option (List ℕ)) where
@@ -112,7 +113,7 @@ module _ {S W : Type 0} {c : calls.Ghosts Host} {s : start.Ghosts S} {g : Ghosts
     pub asked : AsksFor words order work
     pub runs : OpensAndDoes (database_in order) work old new done left
 
-  -- A run leaves a database only if its words ask for work. Otherwise it is refused, a check, a backup, or an
+  -- A run leaves a database only if its words ask for work. Otherwise it is refused, a check, an export, or an
   -- explanation.
   abbrev pub RunsWords : List (List ℕ) → W → W → Result (Unit {0}) Trouble → Option (LeftDatabase (Modelled Host S c s) g) → Type 0
   RunsWords words old new done (Some left) = RunsAsked words old new done left

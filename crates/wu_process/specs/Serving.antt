@@ -18,7 +18,8 @@ use Rattle.wu_cli.specs.Sessions.{ServesOver}
 use Rattle.wu_cli.specs.Troubles.{trouble_of_opening}
 use Rattle.wu_cli.specs.declared.trouble.Trouble.{Trouble}
 use Rattle.wu_process.specs.Asking.{may_hold}
-use Rattle.wu_process.specs.Backups.{MakesBackup, may_become}
+use Rattle.wu_process.specs.Backups.{may_become}
+use Rattle.wu_process.specs.Exports.{MakesExport}
 use Rattle.wu_process.specs.Closing.{IsLeftByClose}
 use Rattle.wu_process.specs.Opening.{IsBar, IsOpenedAt, IsUnopened}
 use Rattle.wu_process.specs.Running.{EndsSo, RunsWords}
@@ -35,7 +36,7 @@ module _ {S W : Type 0} {c : calls.Ghosts Host} {s : start.Ghosts S} {g : Ghosts
     pub conn : Held (FileStore (Modelled Host S c s) g)
     pub opened : IsOpenedAt path (image_at s) conn
     pub again : Held (FileStore (Modelled Host S c s) g)
-    pub serves : ServesOver over_files contents may_hold (MakesBackup may_become) path conn again old new in_old in_new done
+    pub serves : ServesOver over_files contents may_hold (MakesExport may_become may_become) path conn again old new in_old in_new done
     pub closed : IsLeftByClose again left
 
   -- It cannot be opened: the trouble of that is returned, no line is read, and nothing goes out.

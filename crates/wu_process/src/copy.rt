@@ -228,10 +228,22 @@ pub fn copy_in_memory(rt: &HostRuntime, path: &str) -> Result<Files<Memory>, Rea
 }
 
 /// Copies the two files of the database at the path, which this process has open, into memory. The copies alone are kept.
-pub fn copy_while_open(rt: &HostRuntime, path: &str) -> Result<Files<Memory>, Reason>
+fn copy_while_open(rt: &HostRuntime, path: &str) -> Result<Files<Memory>, Reason>
     // Both files in memory have just the bytes that were read of the files at this path.
     ensures { IfOk result (AreCopiedFrom path.now) }
 {
     let bytes = read_while_open(rt, path)?;
     files_in_memory(rt.alloc(), &bytes)
+}
+
+/// Copies the files of the database at the path: of one that this process has open, or of one that no other writes to.
+pub fn copy_files(rt: &HostRuntime, path: &str, is_open: bool) -> Result<Files<Memory>, Reason>
+    // Both files in memory have just the bytes that were read of the files at this path.
+    ensures { IfOk result (AreCopiedFrom path.now) }
+{
+    if is_open {
+        copy_while_open(rt, path)
+    } else {
+        copy_in_memory(rt, path)
+    }
 }

@@ -16,16 +16,18 @@ mod beside;
 mod check;
 mod copy;
 mod database;
+mod export;
 mod files;
 mod made;
 mod new_file;
 mod opening;
+mod outputs;
 mod signs;
 
-use backup::back_up;
 use check::check_path;
 pub use database::LeftDatabase;
 use database::{hold_session, open_and_perform};
+use export::export;
 use files::HostFiles;
 use made::{order_without_file, tell_made};
 use signs::{Cleared, Signs, Watched};
@@ -70,7 +72,7 @@ fn run_words<S: sqlite::Start, R: BufRead, O: Write, E: Write>(
     err: &mut E,
 ) -> Ran<FileFrom<S>>
     // Refused words, and a line or a script that cannot be run, are reported, and nothing goes out.
-    // Otherwise the work is done over the database that the words name, or the check, the backup or
+    // Otherwise the work is done over the database that the words name, or the check, the export or
     // the explanation, or a session is held.
     ensures { RanFor O.contents (map string_bytes words.now) out.old out.new err.old err.new
         (R.remaining input.old) (R.remaining input.new) result }
@@ -93,10 +95,7 @@ fn run_words<S: sqlite::Start, R: BufRead, O: Write, E: Write>(
             Ran::Served(done, left)
         }
         Ok(Order::Check(path)) => Ran::Done(check_path(rt, path.as_str(), out), None),
-        Ok(Order::Backup(asked)) => {
-            let (path, to) = (asked.db.as_str(), asked.to.as_str());
-            Ran::Done(back_up(rt, path, to, &files, out), None)
-        }
+        Ok(Order::Export(asked)) => Ran::Done(export(rt, &asked, &files, out), None),
         Ok(Order::Explain(topic)) => Ran::Done(explain(&topic, out), None),
         Err(usage) => Ran::Done(Err(Trouble::Usage(usage)), None),
     }
@@ -214,6 +213,14 @@ fn asks_for_session(words: &io::Result<Vec<String>>) -> bool {
     }
 }
 
+/// Returns whether the terminal can wipe a line: a dumb one cannot.
+fn can_wipe(rt: &HostRuntime) -> bool {
+    match env::var(rt, "TERM") {
+        Ok(term) => term.as_str() != "dumb",
+        Err(_) => true,
+    }
+}
+
 /// Does what the words of the command line ask for, as `run_with`, with the input and the outputs of the process. Nothing
 /// is assumed of the database file. If standard error is a terminal, it shows in the meantime how many answers have gone
 /// out, and the last one, and at the end that a database was made, if one was. Returns the status to end with.
@@ -227,7 +234,8 @@ pub fn run(rt: &HostRuntime) -> u8
 {
     let words = words(rt);
     let is_terminal = rt.stderr().is_terminal() && !asks_for_session(&words);
-    let mut err = Cleared::new(rt.stderr(), is_terminal);
+    let can_wipe = can_wipe(rt);
+    let mut err = Cleared::new(rt.stderr(), is_terminal && can_wipe);
     let without_file = if is_terminal {
         order_without_file(rt, &words)
     } else {
@@ -235,7 +243,7 @@ pub fn run(rt: &HostRuntime) -> u8
     };
     match BufWriter::new(rt.alloc(), rt.stdout()) {
         Ok(out) => {
-            let signs = Signs::new(is_terminal.then_some(rt.stderr()));
+            let signs = Signs::new(is_terminal.then_some(rt.stderr()), can_wipe);
             let mut out = Watched::new(out, signs);
             out.begin();
             let mut input = rt.reader();

@@ -1,6 +1,6 @@
 //! The progress line on a terminal: how many answers have gone out, and the last of them. No contract speaks of the
-//! terminal; what it shows is wiped before anything else is written. Where rows were skipped, a line stays that says
-//! where to read on.
+//! terminal; what it shows is wiped before anything else is written. A terminal that cannot wipe has none. Where rows
+//! were skipped, a line stays that says where to read on.
 
 ghost use Rattle.std.specs.Prelude.{◌≡◌};
 ghost use Rattle.wu_process.specs.Signs.{handed_on};
@@ -10,8 +10,8 @@ use std::io::{self, Write};
 /// The bytes that wipe the last line of a terminal.
 const WIPE: &[u8] = b"\r\x1b[K";
 
-/// How many bytes of a line are shown at most.
-const MOST_SHOWN: usize = 64;
+/// How many bytes of a line are shown at most: with the count before it they fit into 80 columns.
+const MOST_SHOWN: usize = 48;
 
 /// What stays on a terminal where rows were skipped.
 const SKIPPED: &[u8] = b"rows were skipped: lintelthyme explain skips\n";
@@ -69,6 +69,7 @@ impl FirstLine {
 #[derive(Drop)]
 pub struct Signs<T: Drop> {
     terminal: Option<T>,
+    can_wipe: bool,
     answers: u64,
     answer: FirstLine,
     is_shown: bool,
@@ -76,10 +77,11 @@ pub struct Signs<T: Drop> {
 }
 
 impl<T: Write + Drop> Signs<T> {
-    /// Makes the progress line of this terminal, or none.
-    pub fn new(terminal: Option<T>) -> Self {
+    /// Makes the progress line of this terminal, or none. One that cannot wipe shows no progress.
+    pub fn new(terminal: Option<T>, can_wipe: bool) -> Self {
         Signs {
             terminal,
+            can_wipe,
             answers: 0,
             answer: FirstLine::new(),
             is_shown: false,
@@ -89,6 +91,9 @@ impl<T: Write + Drop> Signs<T> {
 
     /// Shows how many answers went out, and the last one; before the first, that the database is opened.
     fn tell(&mut self) {
+        if !self.can_wipe {
+            return;
+        }
         let answers = self.answers;
         let Some(terminal) = &mut self.terminal else {
             return;

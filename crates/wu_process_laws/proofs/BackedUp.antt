@@ -31,7 +31,7 @@ use Rattle.wu_process_laws.specs.Checked.{FindsWith, image_of_bytes}
 use Rattle.wu_process_laws.proofs.Checked.{found_in_order, memory_clean}
 
 -- what holds of an answer that gave numbers
-of_counts : (v : Result Verdict Fault) (its : Counts) (A : Type 0) → AreOfVerdict v (Ok its) → OnOk v A → A
+pub of_counts : (v : Result Verdict Fault) (its : Counts) (A : Type 0) → AreOfVerdict v (Ok its) → OnOk v A → A
 of_counts (Ok (verdict.Sound version workunits results)) its A gives holds = holds
 of_counts (Ok (verdict.Unsound found)) its A gives holds = absurd cc
 of_counts (Err fault) its A gives holds = absurd cc
@@ -51,7 +51,7 @@ module _ (files : Files Memory) (conn : Held (FileStore Memory memory_disk)) (op
   image = image_of memory_disk files
 
   module _ (again : Held (FileStore Memory memory_disk)) (its : Counts) (checks : CountsSound over_files conn again (Ok its)) where
-    kept : IsAsBefore over_files conn again
+    pub kept : IsAsBefore over_files conn again
     kept = of_counts checks.verdict its _ checks.gives (checks.asks.answered (memory_clean again))
 
     committed : (file_state again).committed ≡ (file_state conn).committed
@@ -60,7 +60,7 @@ module _ (files : Files Memory) (conn : Held (FileStore Memory memory_disk)) (op
       | inr unchanged ↦ unchanged.0.committed_is
     ]
 
-    sound : FindsWith image (λ db. IsSoundAs db its.version its.workunits its.results)
+    pub sound : FindsWith image (λ db. IsSoundAs db its.version its.workunits its.results)
     sound =
         let db = (file_state conn).now in
         let opens = opened.opens (memory_clean conn) in

@@ -142,6 +142,7 @@ reason_told reason.Memory none = absurd (omega (arith, none))
 
 unmade_told : (u : Unmade) → unmade_status u ≡ 0 → ⊥
 unmade_told unmade.Taken none = absurd (omega (arith, none))
+unmade_told unmade.OtherBytes none = absurd (omega (arith, none))
 unmade_told unmade.LogName none = absurd (omega (arith, none))
 unmade_told unmade.LogBeside none = absurd (omega (arith, none))
 unmade_told unmade.PartBeside none = absurd (omega (arith, none))
@@ -159,6 +160,8 @@ trouble_told (trouble.LineFault end) none = fault_told end.fault none
 trouble_told (trouble.Unchecked r) none = reason_told r none
 trouble_told (trouble.Unsound found) none = absurd (omega (arith, none))
 trouble_told (trouble.Unmade why) none = unmade_told why none
+trouble_told trouble.NoFolder none = absurd (omega (arith, none))
+trouble_told (trouble.Lost lost) none = unmade_told lost.why none
 
 -- with status 0 there was no trouble
 whole_at : {W : Type 0} (contents : W → Option (List ℕ)) (old new : W) (done : Result (Unit {0}) Trouble) (status : ℕ) (is_told : Bool) (A : Type 0)

@@ -1,3 +1,4 @@
 mod BackedUp
 mod Checked
+mod KeptOutputs
 mod Leaving

@@ -4,10 +4,12 @@
 ghost use Rattle.wu_process.specs.Processes.{RunsProcess};
 ghost use Rattle.wu_process_laws.specs.BackedUp.{EachBackupHolds};
 ghost use Rattle.wu_process_laws.specs.Checked.{EachCheckIsTrue};
+ghost use Rattle.wu_process_laws.specs.KeptOutputs.{EachOutputHasItsFile};
 ghost use Rattle.wu_process_laws.specs.Runs.{BeginsWhereOneEnded, BeginsWhereOneStopped, LeavesItsWork, LeavesItsWorkUnclosed};
 
 use sqlite::{FileFrom, Start};
 use std::io::{self, BufRead, Write};
+use wu_cli::KeepFile;
 use wu_process::{End, run_with};
 
 /// Shows that a run that closed its database leaves the world after a prefix of its commands, and that no crash changes
@@ -86,4 +88,13 @@ pub fn a_backup_holds_the_project()
     // All tables are those of the files that were read, and so is the world. It is a sound project
     // of a known version, with the reported numbers, where no row is shorter than its table.
     ensures { EachBackupHolds }
+{}
+
+/// Shows that each output that was counted has its file: the canonical outputs that were asked for, of the archive that
+/// the copied files held. So it is also of the outputs that a session writes.
+pub fn each_output_has_its_file<F: KeepFile>()
+    // The files that were read hold a sound project, where no row is shorter than its table. Of
+    // each world with classes that they hold, each output that was asked for has its file, with
+    // exactly its bytes, and the counts are the number of these.
+    ensures { EachOutputHasItsFile F.KeepFile.keeps }
 {}

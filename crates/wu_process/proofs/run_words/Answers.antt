@@ -19,11 +19,10 @@ returns-in-Ok-Check g c =
     let ordered : IsOrderOf (map string_bytes c.args.words.now) (order.Check c.in-Ok-Check.path) = search rules in
     (inr (inl (c.in-Ok-Check.path, ordered, rw c.as_str-in-Ok-Check.ensures at c.check_path.ensures)), refl, refl)
 
-pub returns-in-Ok-Backup : goal.returns-in-Ok-Backup
-returns-in-Ok-Backup g c =
-    let ordered : IsOrderOf (map string_bytes c.args.words.now) (order.Backup c.in-Ok-Backup.asked) = search rules in
-    let both = rw c.as_str-path.ensures at c.back_up.ensures in
-    (inr (inr (inl (c.in-Ok-Backup.asked, ordered, rw c.as_str-to.ensures at both))), refl, refl)
+pub returns-in-Ok-Export : goal.returns-in-Ok-Export
+returns-in-Ok-Export g c =
+    let ordered : IsOrderOf (map string_bytes c.args.words.now) (order.Export c.in-Ok-Export.asked) = search rules in
+    (inr (inr (inl (c.in-Ok-Export.asked, ordered, c.export.ensures))), refl, refl)
 
 pub returns-in-Ok-Explain : goal.returns-in-Ok-Explain
 returns-in-Ok-Explain g c =

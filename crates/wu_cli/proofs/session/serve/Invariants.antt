@@ -6,5 +6,5 @@ use Rattle.wu_cli.proofs.session.serve.Given as goal
 
 abbrev pub invariant-loop : goal.invariant-loop
 invariant-loop g l = (heard : List (Result (List ℕ) Refusal))
-    × AnswersEach g.W.Write.contents (g.F.ReadFile.gives l.files) (g.F.BackUp.backs_up l.files) l.db l.initial.project l.project l.initial.out l.out heard
+    × AnswersEach g.W.Write.contents (g.F.ReadFile.gives l.files) (g.F.MakeExport.exports l.files) l.db l.initial.project l.project l.initial.out l.out heard
     × Hears (g.R.Read.remaining l.initial.input) (g.R.Read.remaining l.input) heard

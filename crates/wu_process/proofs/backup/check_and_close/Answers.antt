@@ -3,7 +3,7 @@ use Rattle.std.specs.Prelude.{MatchResult}
 use Rattle.wu_cli.specs.declared.backup.Counts.{Counts}
 use Rattle.wu_cli.specs.declared.trouble.Trouble.{Trouble}
 use Rattle.wu_process.specs.Backups.{ClosesFolded}
-use Rattle.wu_process.proofs.RunLemmas.{handed_on}
+use Rattle.wu_cli.proofs.TroubleLemmas.{handed_on}
 use Rattle.wu_process.proofs.backup.check_and_close.Goals as goal
 
 pub returns-in_err-counts : goal.returns-in_err-counts

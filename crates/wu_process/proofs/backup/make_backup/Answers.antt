@@ -3,7 +3,7 @@ use Rattle.sqlite_disk.specs.declared.memory.Memory.{Memory}
 use Rattle.wu_cli.specs.declared.trouble.Trouble.{Trouble}
 use Rattle.wu_process.specs.Backups.{EndsBackup}
 use Rattle.wu_process.specs.declared.backup.Folded.{Folded}
-use Rattle.wu_process.proofs.RunLemmas.{handed_on}
+use Rattle.wu_cli.proofs.TroubleLemmas.{handed_on}
 use Rattle.wu_process.proofs.backup.make_backup.Goals as goal
 
 pub returns-in_err-folded : goal.returns-in_err-folded

@@ -1,0 +1,29 @@
+-- What the files of outputs are.
+use Rattle.std.specs.Prelude.{◌≡◌, ℕ, List, length, Ok}
+use Rattle.sqlite_wal.specs.Recovery.{Image}
+use Rattle.wu_check.specs.Findings.{IsSoundAs}
+use Rattle.wu_core.specs.World.{World}
+use Rattle.wu_lives.specs.Runs.{HoldsWorld}
+use Rattle.wu_store.specs.StandsFor.{KnowsClasses}
+use Rattle.wu_views.specs.Lines.{archived_lines}
+use Rattle.wu_arguments.specs.declared.order.OutputFiles.{OutputFiles}
+use Rattle.wu_cli.specs.Outputs.{HaveFiles, total, wanted_of}
+use Rattle.wu_cli.specs.declared.backup.Counts.{Counts}
+use Rattle.wu_cli.specs.declared.outputs.KeptCounts.{KeptCounts}
+use Rattle.wu_process.specs.Outputs.{KeepsOfCopy}
+use Rattle.wu_process_laws.specs.Checked.{FindsWith, image_of_bytes}
+
+-- The two files hold a sound project, and each output that was asked for has its file.
+pub record AreItsOutputs (keeps : List ℕ → List ℕ → Type 0) (image : Image) (asked : OutputFiles) (counts : KeptCounts) : Type 0 where
+  pub numbers : Counts
+  pub sound : FindsWith image (λ db. IsSoundAs db numbers.version numbers.workunits numbers.results)
+  -- The archive is that of each world with classes that the files hold.
+  pub files :
+      (world : World) → KnowsClasses world → HoldsWorld image world
+      → HaveFiles keeps asked (archived_lines world) × (total counts ≡ length (wanted_of asked (archived_lines world)))
+
+-- Wherever outputs of copied files were counted, each has its file.
+abbrev pub EachOutputHasItsFile : {F : Type 0} → (F → List ℕ → List ℕ → Type 0) → Type 0
+EachOutputHasItsFile {F} keeps =
+    (files : F) (path : List ℕ) (asked : OutputFiles) (counts : KeptCounts) (it : KeepsOfCopy (keeps files) asked path (Ok counts))
+    → AreItsOutputs (keeps files) (image_of_bytes it.copy.bytes) asked counts
