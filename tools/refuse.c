@@ -10,8 +10,8 @@
 //   REFUSE_LEFT     the path of the database, if REFUSE_AT is 0
 //   REFUSE_TELL, REFUSE_HEAR    numbers of open files, if REFUSE_AT is 0
 //
-// Reads, writes, syncs and cuts are those of files whose names end in ".db", ".db-wal" or ".db-part". A process that runs for more
-// than a minute is killed.
+// Reads, writes, syncs and cuts are those of files whose names end in ".db", ".db-wal", ".db-part" or "+part". A process
+// that runs for more than a minute is killed.
 //
 // If REFUSE_AT is 0, no call of the process itself fails. At each call of the kind it waits while a child goes on in
 // its place, whose call alone fails; then another child, whose calls fail from this one on. When a child has ended, its
@@ -159,8 +159,10 @@ static int is_of_database(int file) {
     ssize_t length = readlink(link, path, sizeof path - 1);
     if (length < 0) return 0;
     path[length] = 0;
-    const char *dot = strrchr(path, '.');
-    return dot && (!strcmp(dot, ".db") || !strcmp(dot, ".db-wal") || !strcmp(dot, ".db-part"));
+    const char *ends[] = {".db", ".db-wal", ".db-part", "+part"};
+    for (int one = 0; one < 4; one++)
+        if (length >= (ssize_t)strlen(ends[one]) && !strcmp(path + length - strlen(ends[one]), ends[one])) return 1;
+    return 0;
 }
 
 #define REAL(name) ((__typeof__(&name))dlsym(RTLD_NEXT, #name))

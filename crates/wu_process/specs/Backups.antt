@@ -6,10 +6,9 @@ use Rattle.sqlite_disk.specs.declared.Disk.{Ghosts}
 use Rattle.sqlite_disk.specs.declared.Files.{Files}
 use Rattle.sqlite_disk.specs.declared.memory.Memory.{Memory}
 use Rattle.sqlite_store.specs.declared.store.FileStore.{FileStore}
-use Rattle.sqlite.specs.Files.{FailsToOpenFiles, IsCleanLeft, over_files}
+use Rattle.sqlite.specs.Files.{over_files}
 use Rattle.sqlite.specs.Held.{Held}
 use Rattle.sqlite.specs.declared.error.Error.{Error}
-use Rattle.sqlite.specs.declared.file.Leftover.{Leftover}
 use Rattle.wu_cli.specs.Backups.{CountsSound}
 use Rattle.wu_cli.specs.Checks.{reason_of_copy}
 use Rattle.wu_cli.specs.declared.backup.Counts.{Counts}
@@ -17,7 +16,7 @@ use Rattle.wu_cli.specs.declared.backup.Unmade.{Unmade}
 use Rattle.wu_cli.specs.declared.reason.Reason.{Reason}
 use Rattle.wu_cli.specs.declared.trouble.Trouble.{Trouble}
 use Rattle.wu_cli.specs.declared.trouble.Trouble.TheVariants as trouble
-use Rattle.wu_process.specs.Checks.{IsOpenedIn}
+use Rattle.wu_process.specs.Checks.{IsOpenedIn, IsUnopenedIn}
 use Rattle.wu_process.specs.Closing.{IsClosedInto, IsLeftUnclosed}
 use Rattle.wu_process.specs.Copies.{AreCopiedFrom, memory_disk}
 use Rattle.wu_process.specs.declared.backup.Folded.{Folded}
@@ -42,17 +41,10 @@ module _ {D : Type 0} {g : Ghosts D} where
     pub ends : MatchResult counts (λ its. ClosesFolded again its done) (λ told. done ≡ Err told)
 
 module _ {D : Type 0} (g : Ghosts D) where
-  -- The database in the files cannot be opened, for this reason.
-  pub record IsUnfolded (files : Files D) (done : Result (Folded D) Trouble) : Type 0 where
-    pub error : Error
-    pub rest : Leftover D g
-    pub cause : IsCleanLeft rest → FailsToOpenFiles files rest error
-    pub told : done ≡ Err (trouble.Unchecked (reason_of_copy error))
-
   -- The database in the files is opened, checked and closed; or it cannot be opened.
   abbrev pub FoldsFiles : Files D → Result (Folded D) Trouble → Type 0
   FoldsFiles files done =
-      ((conn : Held (FileStore D g)) × IsOpenedIn files conn × Folds conn done) ⊎ IsUnfolded files done
+      ((conn : Held (FileStore D g)) × IsOpenedIn files conn × Folds conn done) ⊎ ((told : Trouble) × IsUnopenedIn g files told × (done ≡ Err told))
 
 module _ (makes : List ℕ → List ℕ → Type 0) where
   -- The new file has the bytes of the one that was closed, and its numbers are returned; or it is not made, for this

@@ -1,6 +1,6 @@
 -- A check of a database, from its path to its report. The files are copied into memory and the copy is checked, so that
 -- the check neither makes nor changes a file.
-use Rattle.std.specs.Prelude.{◌≡◌, ◌⊎◌, ℕ, IsTrue, List, Option, Result, Err}
+use Rattle.std.specs.Prelude.{◌≡◌, ◌⊎◌, ℕ, IsTrue, List, Option, Result, Ok, Err}
 use Rattle.sqlite_disk.specs.declared.Disk.{Ghosts}
 use Rattle.sqlite_disk.specs.declared.Files.{Files}
 use Rattle.sqlite_disk.specs.declared.memory.Memory.{Memory}
@@ -30,6 +30,20 @@ module _ {D : Type 0} {g : Ghosts D} where
     pub finds : HasCleanDisk (file_state conn) → Finds files conn
     pub fresh : IsNew conn
 
+module _ {D : Type 0} (g : Ghosts D) where
+  -- The database in the two files cannot be opened, and this is the trouble.
+  pub record IsUnopenedIn (files : Files D) (told : Trouble) : Type 0 where
+    pub error : Error
+    pub rest : Leftover D g
+    pub named : IsTrue (is_open_error error)
+    pub cause : IsCleanLeft rest → FailsToOpenFiles files rest error
+    pub is : told ≡ trouble.Unchecked (reason_of_copy error)
+
+  -- The database in the two files is opened, or it cannot be.
+  abbrev pub OpensCopy : Files D → Result (Held (FileStore D g)) Trouble → Type 0
+  OpensCopy files (Ok conn) = IsOpenedIn files conn
+  OpensCopy files (Err told) = IsUnopenedIn files told
+
 module _ {D W : Type 0} (g : Ghosts D) (contents : W → Option (List ℕ)) where
   -- The database in the files is opened and checked.
   pub record ChecksOpened (files : Files D) (old new : W) (done : Result (Unit {0}) Trouble) : Type 0 where
@@ -39,11 +53,9 @@ module _ {D W : Type 0} (g : Ghosts D) (contents : W → Option (List ℕ)) wher
 
   -- The database in the files cannot be opened: the reason is reported, and nothing goes out.
   pub record ChecksUnopened (files : Files D) (old new : W) (done : Result (Unit {0}) Trouble) : Type 0 where
-    pub error : Error
-    pub rest : Leftover D g
-    pub named : IsTrue (is_open_error error)
-    pub cause : IsCleanLeft rest → FailsToOpenFiles files rest error
-    pub told : done ≡ Err (trouble.Unchecked (reason_of_copy error))
+    pub trouble : Trouble
+    pub unopened : IsUnopenedIn g files trouble
+    pub told : done ≡ Err trouble
     pub unwritten : new ≡ old
 
   abbrev pub ChecksFiles : Files D → W → W → Result (Unit {0}) Trouble → Type 0

@@ -1,23 +1,19 @@
 -- The outputs of a project as files, from the path of its database. The files are copied, and the copy is checked.
-use Rattle.std.specs.Prelude.{◌≡◌, ◌⊎◌, ℕ, IsTrue, List, Result, Err}
+use Rattle.std.specs.Prelude.{◌≡◌, ◌⊎◌, ℕ, List, Result, Err}
 use Rattle.sqlite_disk.specs.declared.Disk.{Ghosts}
 use Rattle.sqlite_disk.specs.declared.Files.{Files}
 use Rattle.sqlite_disk.specs.declared.memory.Memory.{Memory}
 use Rattle.sqlite_store.specs.declared.store.FileStore.{FileStore}
-use Rattle.sqlite.specs.Files.{FailsToOpenFiles, IsCleanLeft, over_files}
+use Rattle.sqlite.specs.Files.{over_files}
 use Rattle.sqlite.specs.Held.{Held}
-use Rattle.sqlite.specs.Opening.{is_open_error}
 use Rattle.sqlite.specs.Store.{Ghosts as StoreGhosts}
-use Rattle.sqlite.specs.declared.error.Error.{Error}
-use Rattle.sqlite.specs.declared.file.Leftover.{Leftover}
 use Rattle.wu_arguments.specs.declared.order.OutputFiles.{OutputFiles}
-use Rattle.wu_cli.specs.Checks.{reason_of_copy}
 use Rattle.wu_cli.specs.Outputs.{KeepsSound}
 use Rattle.wu_cli.specs.declared.outputs.KeptCounts.{KeptCounts}
 use Rattle.wu_cli.specs.declared.reason.Reason.{Reason}
 use Rattle.wu_cli.specs.declared.trouble.Trouble.{Trouble}
 use Rattle.wu_cli.specs.declared.trouble.Trouble.TheVariants as trouble
-use Rattle.wu_process.specs.Checks.{IsOpenedIn}
+use Rattle.wu_process.specs.Checks.{IsOpenedIn, IsUnopenedIn}
 use Rattle.wu_process.specs.Copies.{AreCopiedFrom, memory_disk}
 
 module _ (keeps : List ℕ → List ℕ → Type 0) (asked : OutputFiles) where
@@ -32,16 +28,9 @@ module _ {D : Type 0} (g : Ghosts D) (keeps : List ℕ → List ℕ → Type 0) 
     pub opened : IsOpenedIn files conn
     pub keeps_all : DropsKept keeps asked over_files conn done
 
-  -- The database in the files cannot be opened, for this reason.
-  pub record KeepsUnopened (files : Files D) (done : Result KeptCounts Trouble) : Type 0 where
-    pub error : Error
-    pub rest : Leftover D g
-    pub named : IsTrue (is_open_error error)
-    pub cause : IsCleanLeft rest → FailsToOpenFiles files rest error
-    pub told : done ≡ Err (trouble.Unchecked (reason_of_copy error))
-
+  -- The outputs of the database in the files are kept; or it cannot be opened.
   abbrev pub KeepsFiles : Files D → Result KeptCounts Trouble → Type 0
-  KeepsFiles files done = KeepsOpened files done ⊎ KeepsUnopened files done
+  KeepsFiles files done = KeepsOpened files done ⊎ ((told : Trouble) × IsUnopenedIn g files told × (done ≡ Err told))
 
 module _ (keeps : List ℕ → List ℕ → Type 0) (asked : OutputFiles) where
   -- These bytes were read of the files at the path, and the outputs of a copy with exactly these bytes are kept.

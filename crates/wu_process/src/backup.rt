@@ -3,7 +3,7 @@
 ghost use Rattle.std.specs.Prelude.{IsTrue};
 ghost use Rattle.wu_process.specs.Backups.{ClosesFolded, Folds, FoldsFiles, MakesBackup, MakesFile};
 
-use crate::check::options;
+use crate::check::{open_copy, options};
 use crate::copy::copy_files;
 use crate::new_file::{MakeFile, refuse_path};
 use sqlite::{Connection, FileStore, Files, Options};
@@ -53,9 +53,9 @@ fn fold<D: Disk + Drop>(
     requires db { IsTrue (D.Disk.is_usable files.db) }
     ensures { FoldsFiles D.Disk files result }
 {
-    match Connection::open_files(alloc, files, options) {
+    match open_copy(alloc, files, options) {
         Ok(conn) => check_and_close(alloc, conn),
-        Err((error, _left)) => Err(Trouble::Unchecked(Reason::of_copy(&error))),
+        Err(trouble) => Err(trouble),
     }
 }
 

@@ -2,10 +2,10 @@
 
 ghost use Rattle.std.specs.Prelude.{IsTrue};
 ghost use Rattle.wu_cli.specs.Checking.{ChecksOver};
-ghost use Rattle.wu_process.specs.Checks.{ChecksFiles, ChecksPath, DropsChecked};
+ghost use Rattle.wu_process.specs.Checks.{ChecksFiles, ChecksPath, DropsChecked, OpensCopy};
 
 use crate::copy::copy_in_memory;
-use sqlite::{Alter, Connection, Files, Options};
+use sqlite::{Alter, Connection, FileStore, Files, Options};
 use sqlite_disk::Disk;
 use std::alloc::Global;
 use std::hash::{BuildHasher, RandomState};
@@ -26,6 +26,26 @@ fn check_and_drop<S: Alter + Drop, O: Write>(
     check_over(alloc, &mut conn, out)
 }
 
+/// Opens the database in two files. If it cannot be opened, the trouble is why.
+pub fn open_copy<D: Disk + Drop>(
+    alloc: Global,
+    files: Files<D>,
+    options: Options,
+) -> Result<Connection<FileStore<D>>, Trouble>
+    // The log can be used.
+    requires log { IsTrue (D.Disk.is_usable files.log) }
+    // The file of the database can be used.
+    requires db { IsTrue (D.Disk.is_usable files.db) }
+    // It is a new connection to the database in the files. Or that cannot be opened, and the reason
+    // is reported.
+    ensures { OpensCopy D.Disk files result }
+{
+    match Connection::open_files(alloc, files, options) {
+        Ok(conn) => Ok(conn),
+        Err((error, _left)) => Err(Trouble::Unchecked(Reason::of_copy(&error))),
+    }
+}
+
 /// Opens the database in two files, and checks it. If it cannot be opened, the trouble is why, and nothing goes out.
 fn check_files<D: Disk + Drop, O: Write>(
     alloc: Global,
@@ -37,9 +57,9 @@ fn check_files<D: Disk + Drop, O: Write>(
     requires db { IsTrue (D.Disk.is_usable files.db) }
     ensures { ChecksFiles D.Disk O.contents files out.old out.new result }
 {
-    match Connection::open_files(alloc, files, options) {
+    match open_copy(alloc, files, options) {
         Ok(conn) => check_and_drop(alloc, conn, out),
-        Err((error, _left)) => Err(Trouble::Unchecked(Reason::of_copy(&error))),
+        Err(trouble) => Err(trouble),
     }
 }
 

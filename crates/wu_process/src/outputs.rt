@@ -5,7 +5,7 @@ ghost use Rattle.std.specs.Prelude.{IsTrue};
 ghost use Rattle.wu_process.specs.Backups.{may_become};
 ghost use Rattle.wu_process.specs.Outputs.{DropsKept, KeepsFiles, KeepsOfPath};
 
-use crate::check::options;
+use crate::check::{open_copy, options};
 use crate::copy::copy_files;
 use crate::files::HostFiles;
 use sqlite::{Alter, Connection, Files, Options};
@@ -14,7 +14,7 @@ use std::alloc::Global;
 use std::fs::{self, File};
 use std::io::{self, ErrorKind, Read, Write};
 use wu_arguments::OutputFiles;
-use wu_cli::{KeepFile, Kept, KeptCounts, Reason, Trouble, Unmade, keep_sound};
+use wu_cli::{KeepFile, Kept, KeptCounts, Trouble, Unmade, keep_sound};
 
 /// Returns whether the file at the path has exactly these bytes. What cannot be read has none.
 fn has_bytes(rt: &HostRuntime, path: &str, bytes: &[u8]) -> Result<bool, Unmade> {
@@ -98,9 +98,9 @@ fn keep_of_files<D: Disk + Drop, F: KeepFile>(
     requires db { IsTrue (D.Disk.is_usable copy.db) }
     ensures { KeepsFiles D.Disk (F.KeepFile.keeps files.now) asked.now copy result }
 {
-    match Connection::open_files(alloc, copy, options) {
+    match open_copy(alloc, copy, options) {
         Ok(conn) => keep_and_drop(alloc, conn, files, asked),
-        Err((error, _left)) => Err(Trouble::Unchecked(Reason::of_copy(&error))),
+        Err(trouble) => Err(trouble),
     }
 }
 

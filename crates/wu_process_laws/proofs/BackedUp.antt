@@ -107,5 +107,5 @@ each_backup path to made it folded is =
     let same : image_of memory_disk it.files ≡ image_of_bytes it.copy.bytes = λ i. record { log = it.copy.copied.log.same i; db = it.copy.copied.db.same i } in
     subst (λ (image : Image). IsBackupOf image (memory_bytes folded.files.db) folded.counts) same (elim it.folds [
       | inl (conn, opened, folds) ↦ backup_of it.files conn opened it.folded folds folded is
-      | inr unopened ↦ absurd (let e = unopened.told in cc)
+      | inr (told, unopened, why) ↦ absurd (let e = why in cc)
     ])

@@ -155,13 +155,14 @@ module _ {W : Type 0} (contents : W → Option (List ℕ)) (old new : W) (done :
 
     unopened_tells : ChecksUnopened memory_disk contents files old new done → TellsOfFiles image (contents old) (contents new) done
     unopened_tells it =
-        let is = it.told in
+        let why = it.unopened in
+        let is : done ≡ Err (trouble.Unchecked (reason_of_copy why.error)) = it.told ∙ ap {B = Result (Unit {0}) Trouble} (λ t. Err t) why.is in
         record {
           sound = λ ok. absurd cc;
-          unsound = λ world held right known. subst (λ (r : Result (Unit {0}) Trouble). IfErr r IsWant) (sym is) (elim (it.cause (left_clean it.rest)) [
+          unsound = λ world held right known. subst (λ (r : Result (Unit {0}) Trouble). IfErr r IsWant) (sym is) (elim (why.cause (left_clean why.rest)) [
             | inl memory ↦ rw memory (inl refl)
             | inr (inl (other, none)) ↦ absurd (none (inl (held.trees, held.holds)))
-            | inr (inr (inl (kind, more))) ↦ rw kind (reason_wanted (tally_of_files memory_disk (files.log, files.db)) (tally_left it.rest))
+            | inr (inr (inl (kind, more))) ↦ rw kind (reason_wanted (tally_of_files memory_disk (files.log, files.db)) (tally_left why.rest))
             | inr (inr (inr (full, limit))) ↦ rw full (inl refl)
           ]);
           why = λ finding told. absurd cc;

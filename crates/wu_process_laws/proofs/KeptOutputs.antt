@@ -72,5 +72,5 @@ each_output keeps files path asked counts it =
     let same : image_of memory_disk it.files ≡ image_of_bytes it.copy.bytes = λ i. record { log = it.copy.copied.log.same i; db = it.copy.copied.db.same i } in
     subst (λ (image : Image). AreItsOutputs (keeps files) image asked counts) same (elim it.keeps_all [
       | inl opened ↦ opened_outputs (keeps files) asked counts it.files opened
-      | inr unopened ↦ absurd (let e = unopened.told in cc)
+      | inr (told, unopened, why) ↦ absurd (let e = why in cc)
     ])

@@ -1,22 +1,8 @@
-use Rattle.std.proofs.Common.{Err, ap, inl, inr}
-use Rattle.wu_cli.specs.declared.trouble.Trouble.TheVariants as trouble
+use Rattle.std.proofs.Common.{inl, inr, refl}
 use Rattle.wu_process.proofs.backup.fold.Goals as goal
 
 pub returns-in-Ok : goal.returns-in-Ok
-returns-in-Ok g c = inl (
-  c.in-Ok.conn,
-  record {
-    opens = c.in-Ok.ensures.opened;
-    finds = c.in-Ok.ensures.found;
-    fresh = c.in-Ok.ensures.fresh;
-  },
-  c.check_and_close.ensures,
-)
+returns-in-Ok g c = inl (c.in-Ok.conn, c.in-Ok.ensures, c.check_and_close.ensures)
 
 pub returns-in-Err : goal.returns-in-Err
-returns-in-Err g c = inr (record {
-  error = c.in-Err.error;
-  rest = c.in-Err._left;
-  cause = c.in-Err.ensures.cause;
-  told = ap (λ reason. Err (trouble.Unchecked reason)) c.of_copy.ensures;
-})
+returns-in-Err g c = inr (c.in-Err.trouble, c.in-Err.ensures, refl)

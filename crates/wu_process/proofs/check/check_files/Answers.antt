@@ -1,24 +1,8 @@
-use Rattle.std.proofs.Common.{Err, ap, inl, inr, refl}
-use Rattle.wu_cli.specs.declared.trouble.Trouble.TheVariants as trouble
+use Rattle.std.proofs.Common.{inl, inr, refl}
 use Rattle.wu_process.proofs.check.check_files.Goals as goal
 
 pub returns-in-Ok : goal.returns-in-Ok
-returns-in-Ok g c = inl (record {
-  conn = c.in-Ok.conn;
-  opened = record {
-    opens = c.in-Ok.ensures.opened;
-    finds = c.in-Ok.ensures.found;
-    fresh = c.in-Ok.ensures.fresh;
-  };
-  checks = c.check_and_drop.ensures;
-})
+returns-in-Ok g c = inl (record { conn = c.in-Ok.conn; opened = c.in-Ok.ensures; checks = c.check_and_drop.ensures })
 
 pub returns-in-Err : goal.returns-in-Err
-returns-in-Err g c = inr (record {
-  error = c.in-Err.error;
-  rest = c.in-Err._left;
-  named = c.in-Err.ensures.named;
-  cause = c.in-Err.ensures.cause;
-  told = ap (λ reason. Err (trouble.Unchecked reason)) c.of_copy.ensures;
-  unwritten = refl;
-})
+returns-in-Err g c = inr (record { trouble = c.in-Err.trouble; unopened = c.in-Err.ensures; told = refl; unwritten = refl })
