@@ -7,6 +7,11 @@ use Rattle.wu_machine.specs.declared.command.Command.{Command}
 use Rattle.wu_arguments.specs.Actions.{and_then, one}
 use Rattle.wu_arguments.specs.declared.action.Action.{Action}
 
+-- what is exactly as expected is refused as expected
+pub told_same : (result expected : Result Action Fault) → result ≡ expected → TellsRefusal result expected
+told_same result (Ok action) is = tt
+told_same result (Err fault) is = is
+
 module _ {A : Type 0} (make : A → Command) where
   abbrev IsAction : Result Action Fault → Result A Fault → Type 0
   IsAction result read = record {

@@ -21,6 +21,7 @@ module _ (rows : List Row) (asked : Subcommand) where
   line_made asking (Ok (order.Session path)) values is = absurd is
   line_made asking (Ok (order.Check path)) values is = absurd is
   line_made asking (Ok (order.Export it)) values is = absurd is
+  line_made asking (Ok (order.Lint it)) values is = absurd is
   line_made asking (Ok (order.Explain topic)) values is = absurd is
   line_made asking (Err usage) values is = tt
 

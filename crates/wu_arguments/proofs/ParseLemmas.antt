@@ -7,7 +7,7 @@ use Rattle.clap.specs.declared.parser.matches.ArgMatches.{ArgMatches}
 use Rattle.wu_arguments.specs.CommandLine.{program}
 use Rattle.wu_arguments.specs.Refusals.{IsRefusalBy, IsTold}
 use Rattle.wu_arguments.specs.declared.usage.Usage.{Usage}
-use Rattle.wu_arguments.specs.declared.usage.Usage.TheVariants.{Refused, UnknownView, UnknownTopic, NotText, LongLine, Incomplete, Memory}
+use Rattle.wu_arguments.specs.declared.usage.Usage.TheVariants.{Refused, UnknownView, UnknownTopic, UnknownKind, NotText, LongLine, Incomplete, Memory}
 
 pub program_is_free : is_simple_and_free program ≡ true
 program_is_free = refl
@@ -18,6 +18,7 @@ module _ (app : App) (words : List (List ℕ)) (free : is_simple_and_free app �
   explained error (Refused text) told (inr among) = λ none. subst (IsAmong (kind_of error)) none among
   explained error UnknownView told kinds = told
   explained error UnknownTopic told kinds = told
+  explained error UnknownKind told kinds = told
   explained error NotText told kinds = told
   explained error LongLine told kinds = told
   explained error Incomplete told kinds = told

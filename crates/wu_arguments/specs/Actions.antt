@@ -12,6 +12,7 @@ use Rattle.wu_machine.specs.declared.command.RowsFile.{RowsFile}
 use Rattle.wu_machine.specs.declared.command.Command.{Command}
 use Rattle.wu_machine.specs.declared.command.Command.TheVariants as command
 use Rattle.wu_machine.specs.Cycles.{cycle}
+use Rattle.wu_machine.specs.declared.view.View.TheVariants.{Status}
 use Rattle.wu_rules.specs.declared.due.Pass.{Pass}
 use Rattle.wu_rules.specs.declared.due.Pass.TheVariants.{Transition, Validate, Assimilate, Delete, Purge}
 use Rattle.wu_arguments.specs.declared.action.Action.{Action}
@@ -77,6 +78,9 @@ pass_command Purge now limit min_age =
 abbrev pub all_of_cycle : List ℕ → ℕ → ℕ → Result Action Fault
 all_of_cycle text limit min_age = and_then (moment_of text) (λ now. Ok (Commands (cycle now limit min_age)))
 
+abbrev pub status : List ℕ → Result Action Fault
+status text = and_then (moment_of text) (λ now. Ok (Look (Status now)))
+
 -- The command, the commands or the view that a line asks for, or the first fault among its options from left to right.
 abbrev pub prepared : Asking → List (Option (List ℕ)) → Result Action Fault
 prepared (asking.Import kind name file template) contents = prepared_import kind name contents
@@ -84,6 +88,7 @@ prepared (asking.Pass pass now limit min_age) contents = and_then (pass_command 
 prepared (asking.Cycle now limit min_age) contents = all_of_cycle now limit min_age
 prepared (asking.Cancel workunit) contents = and_then (name_of workunit) (λ name. one (command.Cancel name))
 prepared (asking.Show view) contents = Ok (Look view)
+prepared (asking.Status now) contents = status now
 prepared asking.Upgrade contents = one command.Upgrade
 
 -- The contents of files, as lists of bytes.

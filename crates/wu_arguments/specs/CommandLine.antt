@@ -11,11 +11,11 @@ use Rattle.wu_core.specs.declared.import.ImportKind.TheVariants as kind
 use Rattle.wu_rules.specs.declared.due.Pass.{Pass as PassKind}
 use Rattle.wu_rules.specs.declared.due.Pass.TheVariants as pass
 use Rattle.wu_arguments.specs.declared.option.LineOption.{LineOption}
-use Rattle.wu_arguments.specs.declared.option.LineOption.TheVariants.{Database, Checked, To, Folder, Only, Name, Jobs, Template, File, Now, Limit, MinAge, Workunit, View, Topic, Detail}
+use Rattle.wu_arguments.specs.declared.option.LineOption.TheVariants.{Database, Checked, To, Folder, Only, Name, Jobs, Template, File, Now, Limit, MinAge, Workunit, View, Topic, Detail, Kind, Linted}
 use Rattle.wu_arguments.specs.declared.option.OptionValue.{OptionValue}
 use Rattle.wu_arguments.specs.declared.option.OptionValue.TheVariants.{Text, TextIfAny, Number, Word}
 use Rattle.wu_arguments.specs.declared.subcommand.Subcommand.{Subcommand}
-use Rattle.wu_arguments.specs.declared.subcommand.Subcommand.TheVariants.{Import, Pass, Cancel, Cycle, Show, Imports, Upgrade, Script, Session, Check, Backup, Outputs, Explain}
+use Rattle.wu_arguments.specs.declared.subcommand.Subcommand.TheVariants.{Import, Pass, Cancel, Cycle, Show, Imports, Status, Upgrade, Script, Session, Check, Lint, Backup, Outputs, Explain}
 
 -- The name of an option, without its two hyphens.
 abbrev pub option_name : LineOption → List ℕ
@@ -35,6 +35,8 @@ option_name Workunit = codes "workunit"
 option_name View = codes "view"
 option_name Topic = codes "topic"
 option_name Detail = codes "which"
+option_name Kind = codes "kind"
+option_name Linted = codes "file"
 
 -- What follows an option on a line. A template, the name of one workunit and the words of `explain` may be left out, and
 -- the words of `explain` stand alone.
@@ -88,10 +90,12 @@ subcommand_name Cancel = codes "cancel"
 subcommand_name Cycle = codes "cycle"
 subcommand_name Show = codes "show"
 subcommand_name Imports = codes "imports"
+subcommand_name Status = codes "status"
 subcommand_name Upgrade = codes "upgrade"
 subcommand_name Script = codes "script"
 subcommand_name Session = codes "session"
 subcommand_name Check = codes "check"
+subcommand_name Lint = codes "lint"
 subcommand_name Backup = codes "backup"
 subcommand_name Outputs = codes "outputs"
 subcommand_name Explain = codes "explain"
@@ -113,10 +117,12 @@ options_of Cancel = Database ∷ Workunit ∷ []
 options_of Cycle = Database ∷ Now ∷ Limit ∷ MinAge ∷ []
 options_of Show = Database ∷ View ∷ []
 options_of Imports = Database ∷ []
+options_of Status = Database ∷ Now ∷ []
 options_of Upgrade = Database ∷ []
 options_of Script = Database ∷ File ∷ []
 options_of Session = Database ∷ []
 options_of Check = Checked ∷ []
+options_of Lint = Kind ∷ Linted ∷ []
 options_of Backup = Checked ∷ To ∷ []
 options_of Outputs = Checked ∷ Folder ∷ Only ∷ []
 options_of Explain = Topic ∷ Detail ∷ []
@@ -125,7 +131,7 @@ abbrev pub all_subcommands : List Subcommand
 all_subcommands =
     Import kind.Batch ∷ Import kind.Sent ∷ Import kind.Reported ∷ Import kind.Classes
     ∷ Pass pass.Transition ∷ Pass pass.Validate ∷ Pass pass.Assimilate ∷ Pass pass.Delete ∷ Pass pass.Purge
-    ∷ Cancel ∷ Cycle ∷ Show ∷ Imports ∷ Upgrade ∷ Script ∷ Session ∷ Check ∷ Backup ∷ Outputs ∷ Explain ∷ []
+    ∷ Cancel ∷ Cycle ∷ Show ∷ Imports ∷ Status ∷ Upgrade ∷ Script ∷ Session ∷ Check ∷ Lint ∷ Backup ∷ Outputs ∷ Explain ∷ []
 
 -- The subcommand of this name.
 abbrev pub subcommand_named : List ℕ → Option Subcommand

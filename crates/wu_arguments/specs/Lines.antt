@@ -71,6 +71,7 @@ HasValues found subcommand.Cycle (asking.Cycle now limit min_age) =
 HasValues found subcommand.Cancel (asking.Cancel workunit) = IsTextIn found option.Workunit workunit
 HasValues found subcommand.Show (asking.Show view) = IsViewIn found (Some view)
 HasValues found subcommand.Imports (asking.Show view) = view ≡ Imports
+HasValues found subcommand.Status (asking.Status now) = IsTextIn found option.Now now
 HasValues found subcommand.Upgrade asking.Upgrade = ⊤
 HasValues found _ _ = ⊥
 
@@ -98,5 +99,6 @@ IsOrder found asked (order.Script script) =
 IsOrder found asked (order.Session path) = (asked ≡ subcommand.Session) × IsTextIn found option.Database path
 IsOrder found asked (order.Check path) = (asked ≡ subcommand.Check) × IsTextIn found option.Checked path
 IsOrder found asked (order.Export it) = IsTextIn found option.Checked it.db × IsExport found asked it.export
+IsOrder found asked (order.Lint it) = (asked ≡ subcommand.Lint) × IsTextIn found option.Kind it.kind × IsTextIn found option.Linted it.file
 IsOrder found asked (order.Explain topic) =
     (asked ≡ subcommand.Explain) × (value_in found option.Topic ≡ topic.name) × (value_in found option.Detail ≡ topic.detail)

@@ -17,7 +17,7 @@ use Rattle.wu_arguments.specs.declared.option.OptionValue.TheVariants.{Number}
 use Rattle.wu_arguments.specs.declared.subcommand.Subcommand.{Subcommand}
 use Rattle.wu_arguments.specs.declared.subcommand.Subcommand.TheVariants.{Show}
 use Rattle.wu_arguments.specs.declared.usage.Usage.{Usage}
-use Rattle.wu_arguments.specs.declared.usage.Usage.TheVariants.{Refused, UnknownView, UnknownTopic, NotText, LongLine, Incomplete, Memory}
+use Rattle.wu_arguments.specs.declared.usage.Usage.TheVariants.{Refused, UnknownView, UnknownTopic, UnknownKind, NotText, LongLine, Incomplete, Memory}
 
 -- An error of clap is reported as a refusal only if it is not out of memory; any error may be reported as out of
 -- memory.
@@ -25,6 +25,7 @@ abbrev pub IsTold : Error → Usage → Type 0
 IsTold error (Refused text) = kind_of error ≢ OutOfMemory
 IsTold error UnknownView = ⊥
 IsTold error UnknownTopic = ⊥
+IsTold error UnknownKind = ⊥
 IsTold error NotText = ⊥
 IsTold error LongLine = ⊥
 IsTold error Incomplete = ⊥
@@ -35,6 +36,7 @@ abbrev pub IsRefusalBy : App → List (List ℕ) → Usage → Type 0
 IsRefusalBy app words (Refused text) = fault_of app words ≢ []
 IsRefusalBy app words UnknownView = ⊥
 IsRefusalBy app words UnknownTopic = ⊥
+IsRefusalBy app words UnknownKind = ⊥
 IsRefusalBy app words NotText = ⊥
 IsRefusalBy app words LongLine = ⊥
 IsRefusalBy app words Incomplete = ⊥
@@ -113,6 +115,7 @@ abbrev pub Explains : List (List ℕ) → Usage → Type 0
 Explains words (Refused text) = fault_of program words ≢ []
 Explains words UnknownView = (found : List Row) × (subcommand_of program words ≡ Some (subcommand_name Show, found)) × IsViewIn found None
 Explains words UnknownTopic = ⊥
+Explains words UnknownKind = ⊥
 Explains words NotText = ⊥
 Explains words LongLine = ⊥
 Explains words Incomplete = (fault_of program words ≡ []) × IsIncomplete (subcommand_of program words)

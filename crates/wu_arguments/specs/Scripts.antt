@@ -20,13 +20,14 @@ use Rattle.wu_arguments.specs.declared.refusal.Refusal.TheVariants as refusal
 abbrev pub command_words : List ℕ → List (List ℕ) → List (List ℕ)
 command_words db words = codes "lintelthyme" ∷ words ++ (codes "--db=" ++ db) ∷ []
 
--- What a script may not contain: another script, a session, a check, an export or an explanation.
+-- What a script may not contain: another script, a session, a check, an export, a lint or an explanation.
 abbrev pub outsider_of : Order → Option Outsider
 outsider_of (order.Line line) = None
 outsider_of (order.Script script) = Some outsider.Script
 outsider_of (order.Session path) = Some outsider.Session
 outsider_of (order.Check path) = Some outsider.Check
 outsider_of (order.Export it) = Some (outsider.Export it.export)
+outsider_of (order.Lint it) = Some outsider.Lint
 outsider_of (order.Explain topic) = Some outsider.Explanation
 
 -- What is to be made of a copy, of a line that is refused since it asks for that; else the refusal.

@@ -6,7 +6,7 @@ ghost use Rattle.wu_core.specs.Reads.{IsOrWantsMemory, TellsRefusal};
 ghost use Rattle.wu_core.specs.Names.{name_of};
 ghost use Rattle.wu_feed.specs.Told.{both};
 ghost use Rattle.wu_arguments.specs.Contents.{Prepares};
-ghost use Rattle.wu_arguments.specs.Actions.{age_in, all_of_cycle, batch, bytes_of, content_of, moment_in, one, pass_command, prepared, prepared_import, rows_file};
+ghost use Rattle.wu_arguments.specs.Actions.{age_in, all_of_cycle, batch, bytes_of, content_of, moment_in, one, pass_command, prepared, prepared_import, rows_file, status};
 
 use crate::files::ReadFile;
 use crate::line::{Asking, Line};
@@ -181,6 +181,14 @@ fn all_of_cycle(alloc: Global, now: &Word, limit: u64, min_age: u64) -> Result<A
     Ok(Action::Commands(Rows::from_vec(commands)))
 }
 
+/// Makes the action that looks at what waits for the passes.
+fn status(now: &Word) -> Result<Action, Fault>
+    ensures { result ≡ status now.now }
+{
+    let now = read_moment(now.as_str().as_bytes())?;
+    Ok(Action::Look(View::Status(now)))
+}
+
 /// Returns what a line asks of a project, with the contents of its files in the order of its usage line. A content is
 /// `None` for a file that could not be read, and has no bytes for a template that the line leaves out. The contents are
 /// moved, not copied.
@@ -214,6 +222,7 @@ pub fn prepare(alloc: Global, line: &Line, contents: Vec<Option<Vec<u8>>>) -> Re
             one(alloc, Command::Cancel { workunit })
         }
         Asking::Show(view) => Ok(Action::Look(*view)),
+        Asking::Status { now } => status(now),
         Asking::Upgrade => one(alloc, Command::Upgrade),
     }
 }

@@ -25,7 +25,7 @@ pub use action::{Action, prepare, read_and_prepare};
 pub use files::ReadFile;
 pub use line::{Asking, Line};
 pub use option::{LineOption, OptionForm, OptionValue};
-pub use order::{Export, ExportOrder, Order, OutputFiles, ScriptFile, Topic};
+pub use order::{Export, ExportOrder, LintOrder, Order, OutputFiles, ScriptFile, Topic};
 pub use reading::{read_up_to, text_of_script, unread};
 pub use refusal::{Outsider, Refusal};
 pub use status::{UNOPENED, exit_status, fault_status};

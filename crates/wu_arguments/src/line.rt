@@ -36,6 +36,10 @@ pub enum Asking {
     },
     /// Prints a view.
     Show(View),
+    /// Prints what waits for the passes at a moment.
+    Status {
+        now: Word,
+    },
     /// Brings the schema to the present version.
     Upgrade,
 }
@@ -65,6 +69,7 @@ impl Drop for Asking {
                 workunit: _workunit,
             } => {}
             Asking::Show(_view) => {}
+            Asking::Status { now: _now } => {}
             Asking::Upgrade => {}
         }
     }

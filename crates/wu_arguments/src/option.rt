@@ -76,6 +76,10 @@ pub enum LineOption {
     Topic,
     /// Which view or file is explained.
     Detail,
+    /// What a file is for.
+    Kind,
+    /// A file that is read and not imported.
+    Linted,
 }
 
 impl LineOption {
@@ -182,6 +186,18 @@ impl LineOption {
                 value: OptionValue::Word,
                 value_name: "WHICH",
                 help: "Which view, or which file",
+            },
+            LineOption::Kind => OptionForm {
+                name: "kind",
+                value: OptionValue::Text,
+                value_name: "KIND",
+                help: "jobs, sends, reports, classes, template or script",
+            },
+            LineOption::Linted => OptionForm {
+                name: "file",
+                value: OptionValue::Text,
+                value_name: "FILE",
+                help: "The file that is read; of a script, also the files of its lines",
             },
         }
     }

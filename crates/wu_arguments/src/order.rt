@@ -54,6 +54,15 @@ pub struct ExportOrder {
     pub export: Export,
 }
 
+/// A file that is read as an import or a script reads it, and nothing more.
+#[derive(Drop)]
+pub struct LintOrder {
+    /// The word of what the file is for.
+    pub kind: Word,
+    /// Where it lies.
+    pub file: Word,
+}
+
 /// What is explained: a topic, of views and files with the name of one, or without a topic what topics there are.
 #[derive(Drop)]
 pub struct Topic {
@@ -74,6 +83,8 @@ pub enum Order {
     Check(Word),
     /// What is made of a copy of a sound project.
     Export(ExportOrder),
+    /// A reading of a file.
+    Lint(LintOrder),
     /// An explanation.
     Explain(Topic),
 }

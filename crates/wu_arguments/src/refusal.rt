@@ -21,6 +21,7 @@ pub enum Outsider {
     Check,
     /// What is made of a copy of the project. A session makes it.
     Export(Export),
+    Lint,
     Explanation,
 }
 

@@ -50,6 +50,7 @@ fn line_of_words(alloc: Global, db: &str, words: Words) -> Result<Line, Refusal>
         Order::Session(_) => Err(Refusal::Outsider(Outsider::Session)),
         Order::Check(_) => Err(Refusal::Outsider(Outsider::Check)),
         Order::Export(asked) => Err(Refusal::Outsider(Outsider::Export(asked.export))),
+        Order::Lint(_) => Err(Refusal::Outsider(Outsider::Lint)),
         Order::Explain(_) => Err(Refusal::Outsider(Outsider::Explanation)),
     }
 }

@@ -29,17 +29,19 @@ pub enum Subcommand {
     Cycle,
     Show,
     Imports,
+    Status,
     Upgrade,
     Script,
     Session,
     Check,
+    Lint,
     Backup,
     Outputs,
     Explain,
 }
 
 /// All subcommands, in the order of help.
-pub const SUBCOMMANDS: [Subcommand; 20] = [
+pub const SUBCOMMANDS: [Subcommand; 22] = [
     Subcommand::Import(ImportKind::Batch),
     Subcommand::Import(ImportKind::Sent),
     Subcommand::Import(ImportKind::Reported),
@@ -53,10 +55,12 @@ pub const SUBCOMMANDS: [Subcommand; 20] = [
     Subcommand::Cycle,
     Subcommand::Show,
     Subcommand::Imports,
+    Subcommand::Status,
     Subcommand::Upgrade,
     Subcommand::Script,
     Subcommand::Session,
     Subcommand::Check,
+    Subcommand::Lint,
     Subcommand::Backup,
     Subcommand::Outputs,
     Subcommand::Explain,
@@ -164,6 +168,12 @@ impl Subcommand {
                 about: "Print a line for each file that was imported, with its applied and skipped rows",
                 example: "Example: lintelthyme imports --db project.db",
             },
+            Subcommand::Status => SubcommandForm {
+                name: "status",
+                options: &[LineOption::Database, LineOption::Now],
+                about: "Print for each pass how many workunits wait for it at a moment",
+                example: "Example: lintelthyme status --db project.db --now 2026-03-01T12:00:00Z",
+            },
             Subcommand::Upgrade => SubcommandForm {
                 name: "upgrade",
                 options: &[LineOption::Database],
@@ -188,6 +198,12 @@ impl Subcommand {
                 about: "Tell whether a database holds a sound project; nothing is made or changed",
                 example: "Example: lintelthyme check --db project.db",
             },
+            Subcommand::Lint => SubcommandForm {
+                name: "lint",
+                options: &[LineOption::Kind, LineOption::Linted],
+                about: "Tell whether a file reads as its import or its script would read it; no database is opened",
+                example: "Example: lintelthyme lint --kind jobs --file jobs.csv",
+            },
             Subcommand::Backup => SubcommandForm {
                 name: "backup",
                 options: &[LineOption::Checked, LineOption::To],
@@ -211,7 +227,7 @@ impl Subcommand {
 
     /// Returns the subcommand of this name.
     pub fn named(name: &str) -> Option<Subcommand>
-        // Each of the twenty names gives its subcommand, and any other text `None`.
+        // Each of the twenty-two names gives its subcommand, and any other text `None`.
         ensures { result ≡ subcommand_named name.now }
     {
         for one in SUBCOMMANDS {

@@ -18,6 +18,8 @@ pub enum Usage {
     UnknownView,
     /// What is to be explained is no topic.
     UnknownTopic,
+    /// What a file is for is no kind of files.
+    UnknownKind,
     /// The words of the process are no UTF-8 text.
     NotText,
     /// A line of a session is too long.

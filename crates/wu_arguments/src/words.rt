@@ -8,7 +8,7 @@ ghost use Rattle.wu_arguments.specs.Refusals.{Explains, HasText, IsLacking, IsOr
 
 use crate::line::{Asking, Line};
 use crate::option::LineOption;
-use crate::order::{Export, ExportOrder, Order, OutputFiles, ScriptFile, Topic};
+use crate::order::{Export, ExportOrder, LintOrder, Order, OutputFiles, ScriptFile, Topic};
 use crate::parse::parse;
 use crate::subcommand::Subcommand;
 use crate::usage::Usage;
@@ -130,6 +130,16 @@ fn read_cancel(alloc: Global, found: &ArgMatches<'_>) -> Result<Asking, Usage>
     })
 }
 
+/// Reads the moment of what waits.
+fn read_status(alloc: Global, found: &ArgMatches<'_>) -> Result<Asking, Usage>
+    ensures asking { IfOk result (HasValues (rows_of (found_of found.now)) Subcommand.Status) }
+    ensures refused { IfErr result (IsLacking (rows_of (found_of found.now)) Subcommand.Status) }
+{
+    Ok(Asking::Status {
+        now: text(alloc, found, LineOption::Now)?,
+    })
+}
+
 /// Makes the line that asks this, of the database that is named.
 fn line(alloc: Global, asking: Asking, found: &ArgMatches<'_>) -> Result<Order, Usage>
     ensures line { IfOk result (IsLineIn (rows_of (found_of found.now)) asking) }
@@ -180,6 +190,17 @@ fn read_outputs(alloc: Global, found: &ArgMatches<'_>) -> Result<Order, Usage>
     }))
 }
 
+/// Reads the file that is only read, and what it is for.
+fn read_lint(alloc: Global, found: &ArgMatches<'_>) -> Result<Order, Usage>
+    ensures order { IfOk result (IsOrder (rows_of (found_of found.now)) Subcommand.Lint) }
+    ensures refused { IfErr result (IsLacking (rows_of (found_of found.now)) Subcommand.Lint) }
+{
+    Ok(Order::Lint(LintOrder {
+        kind: text(alloc, found, LineOption::Kind)?,
+        file: text(alloc, found, LineOption::Linted)?,
+    }))
+}
+
 /// Reads the topic of an explanation.
 fn read_topic(alloc: Global, found: &ArgMatches<'_>) -> Result<Order, Usage>
     ensures order { IfOk result (IsOrder (rows_of (found_of found.now)) Subcommand.Explain) }
@@ -207,10 +228,12 @@ fn order_of(alloc: Global, subcommand: Subcommand, found: &ArgMatches<'_>) -> Re
         Subcommand::Cycle => line(alloc, read_cycle(alloc, found)?, found),
         Subcommand::Show => line(alloc, Asking::Show(view(found)?), found),
         Subcommand::Imports => line(alloc, Asking::Show(View::Imports), found),
+        Subcommand::Status => line(alloc, read_status(alloc, found)?, found),
         Subcommand::Upgrade => line(alloc, Asking::Upgrade, found),
         Subcommand::Script => script(alloc, found),
         Subcommand::Session => Ok(Order::Session(text(alloc, found, LineOption::Database)?)),
         Subcommand::Check => Ok(Order::Check(text(alloc, found, LineOption::Checked)?)),
+        Subcommand::Lint => read_lint(alloc, found),
         Subcommand::Backup => read_backup(alloc, found),
         Subcommand::Outputs => read_outputs(alloc, found),
         Subcommand::Explain => read_topic(alloc, found),

@@ -21,10 +21,7 @@ use crate::once::{
 use crate::records::{first_unbacked_grant, first_unbacked_row};
 use crate::wrong::Wrong;
 use std::alloc::{AllocError, Global};
-use wu_core::{Fault, MOST_WORKUNITS, Workunit};
-
-/// The first version with classes of hosts.
-const FIRST_WITH_CLASSES: u64 = 3;
+use wu_core::{CLASS_VERSION, Fault, MOST_WORKUNITS, Workunit};
 
 /// Returns whether the next workunit may get the number, or the number is one past the last.
 fn is_next_number(number: u64) -> bool
@@ -207,7 +204,7 @@ fn is_classless(loaded: &Loaded) -> bool
 fn has_classes_in_time(loaded: &Loaded) -> bool
     ensures { IsTrue result ↔ HasClassesInTime loaded.now }
 {
-    FIRST_WITH_CLASSES <= loaded.version() || is_classless(loaded)
+    CLASS_VERSION <= loaded.version() || is_classless(loaded)
 }
 
 /// Returns the first host whose class is out of its range or that is out of order, or that the version has no classes.

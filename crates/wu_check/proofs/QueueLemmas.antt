@@ -19,10 +19,11 @@ use Rattle.wu_loader.specs.Whole.{DiffersAt}
 use Rattle.wu_check.specs.Queues.{ComparesTo, HasMarks, IsQueueIn, LooksInQueue, marked_row}
 use Rattle.wu_check.proofs.ExamineLemmas.{never_broken}
 use Rattle.wu_check.proofs.RowLemmas.{shown_differs}
+use Rattle.wu_check.specs.declared.marks.TheConstants.{SELECT_MARKS}
 
 abbrev pub queue_asked : Asked
 queue_asked = record {
-  text = codes "SELECT workunit, wake, to_validate, to_assimilate, to_delete, purge_from FROM queue ORDER BY workunit";
+  text = SELECT_MARKS.now;
   parameters = [];
   shown = 0 ∷ 1 ∷ 2 ∷ 3 ∷ 4 ∷ 5 ∷ [];
   tests = [];

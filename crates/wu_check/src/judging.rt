@@ -17,8 +17,7 @@ use sqlite::{Alter, Connection};
 use sqlite_schema::schema::Schema;
 use std::alloc::Global;
 use wu_audit::{Loaded, audit};
-use wu_core::Fault;
-use wu_schema::PRESENT_VERSION;
+use wu_core::{Fault, PRESENT_VERSION};
 use wu_tables::queue_tree;
 
 /// Returns whether this program knows the version.

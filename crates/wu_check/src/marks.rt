@@ -92,6 +92,10 @@ fn first_other(rows: &[Row], workunits: &[Workunit]) -> Option<u64>
     }
 }
 
+/// Asks for the marks of all workunits, in order of their numbers.
+pub const SELECT_MARKS: &str =
+    "SELECT workunit, wake, to_validate, to_assimilate, to_delete, purge_from FROM queue ORDER BY workunit";
+
 /// Returns the rows of the queue, in order of their workunits' numbers.
 fn queue_rows<S: Alter>(conn: &mut Connection<S>) -> Result<Vec<Row>, Fault>
     // Only reads; over a queue whose rows are whole and in rowid order, these are its rows, without
@@ -99,11 +103,7 @@ fn queue_rows<S: Alter>(conn: &mut Connection<S>) -> Result<Vec<Row>, Fault>
     ensures { LooksInQueue S.Store conn.old conn.new result (λ rows shown. shown.items ≡ map
         (keyed 6) rows) }
 {
-    query(
-        conn,
-        "SELECT workunit, wake, to_validate, to_assimilate, to_delete, purge_from FROM queue ORDER BY workunit",
-        &[],
-    )
+    query(conn, SELECT_MARKS, &[])
 }
 
 /// Returns the first place, from 1, at which the rows of the queue are not the marks of each workunit, or `None` if

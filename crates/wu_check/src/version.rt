@@ -9,6 +9,7 @@ ghost use Rattle.wu_loader.specs.Shown.{keyed};
 use sqlite::types::ValueRef;
 use sqlite::{Alter, Connection, Row};
 use wu_core::Fault;
+use wu_loader::SELECT_PROJECT;
 use wu_schema::query;
 
 /// The first version. Its tables are those that each version has.
@@ -19,11 +20,7 @@ fn rows_of_project<S: Alter>(conn: &mut Connection<S>) -> Result<Vec<Row>, Fault
     ensures { Looks FIRST_VERSION S.Store conn.old conn.new result
         (λ db trees rows. rows.items ≡ map (keyed 3) (db.trees trees.project)) }
 {
-    query(
-        conn,
-        "SELECT one, version, next_number FROM project ORDER BY one",
-        &[],
-    )
+    query(conn, SELECT_PROJECT, &[])
 }
 
 /// Returns the version in the row of a project, and 1 for any other row.

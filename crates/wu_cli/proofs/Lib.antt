@@ -7,5 +7,6 @@ pub mod WorkLemmas
 pub mod HearingLemmas
 pub mod SessionLemmas
 pub mod AcceptLemmas
+mod LintLemmas
 mod OutputLemmas
 pub mod TroubleLemmas

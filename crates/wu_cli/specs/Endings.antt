@@ -46,6 +46,7 @@ abbrev pub usage_text : Usage → List ℕ
 usage_text (usage.Refused text) = text
 usage_text usage.UnknownView = codes "unknown view" ++ line_end
 usage_text usage.UnknownTopic = codes "unknown topic: lintelthyme explain lists them" ++ line_end
+usage_text usage.UnknownKind = codes "unknown kind: jobs, sends, reports, classes, template or script" ++ line_end
 usage_text usage.LongLine = codes "line too long" ++ line_end
 usage_text usage.NotText = cause_text cause.NotText
 usage_text usage.Incomplete = codes "a value is missing" ++ line_end
@@ -58,6 +59,7 @@ outsider_line outsider.Session = codes "a session cannot stand in a script" ++ l
 outsider_line outsider.Check = codes "a check cannot stand in a script" ++ line_end
 outsider_line (outsider.Export (export.Backup to)) = codes "a backup cannot stand in a script" ++ line_end
 outsider_line (outsider.Export (export.Outputs files)) = codes "outputs cannot stand in a script" ++ line_end
+outsider_line outsider.Lint = codes "a lint cannot stand in a script" ++ line_end
 outsider_line outsider.Explanation = codes "an explanation cannot stand in a script" ++ line_end
 
 abbrev pub refusal_text : Refusal → List ℕ

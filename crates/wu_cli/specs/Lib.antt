@@ -5,6 +5,7 @@ pub mod Checks
 pub mod Endings
 pub mod Explaining
 pub mod Exports
+pub mod Linting
 pub mod Outputs
 pub mod Performing
 pub mod Repeating

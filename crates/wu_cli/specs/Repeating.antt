@@ -9,6 +9,7 @@ use Rattle.wu_machine.specs.Requests.{AskPass, Request}
 use Rattle.wu_arguments.specs.declared.action.Action.{Action}
 use Rattle.wu_arguments.specs.declared.action.Action.TheVariants.{Commands, Look}
 use Rattle.wu_arguments.specs.declared.step.Step.{Step}
+use Rattle.wu_cli.specs.declared.repeating.TheConstants.{MOST_ROUNDS}
 
 -- ---- the commands of a script
 
@@ -54,7 +55,7 @@ is_full world (Look view) = false
 
 -- How often a step may be done: a repeated one at most a million times, any other once.
 abbrev pub most_rounds : Bool → ℕ
-most_rounds true = 1000000
+most_rounds true = MOST_ROUNDS
 most_rounds false = 1
 
 -- How often an action is done over a world: once, and again after each time that it handled its limit, up to this

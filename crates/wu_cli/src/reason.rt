@@ -22,6 +22,7 @@ pub enum Reason {
     OtherKind,
     /// Its file has more names than one, and its log may lie beside another one.
     TwoNames,
+    /// It is damaged, or the log beside it is that of another database.
     Damaged,
     FailingDisk,
     FullDisk,
@@ -114,7 +115,9 @@ impl Reason {
             Reason::TwoNames => {
                 "cannot open the database: its file has a second name, and its log may lie beside that\n"
             }
-            Reason::Damaged => "cannot open the database: it is damaged\n",
+            Reason::Damaged => {
+                "cannot open the database: it is damaged, or the log beside it is of another database\n"
+            }
             Reason::FailingDisk => "cannot open the database: the disk failed\n",
             Reason::FullDisk => "cannot open the database: the disk is full\n",
             Reason::Refused => "cannot open the database: the file cannot be opened\n",

@@ -76,11 +76,14 @@ pub fn act<S: Alter, W: Write>(
     }
 }
 
+/// How often a repeated step is done at most.
+pub const MOST_ROUNDS: u32 = 1_000_000;
+
 /// Returns how often a step is done at most: a million times if it is repeated, and else once.
 fn most_rounds(repeats: bool) -> u32
     ensures { result ≡ most_rounds repeats }
 {
-    if repeats { 1_000_000 } else { 1 }
+    if repeats { MOST_ROUNDS } else { 1 }
 }
 
 /// Does what a step of a script asks for. A repeated step is done again until its pass handles less than its limit, at

@@ -12,10 +12,9 @@ use sqlite::{Alter, Connection};
 use std::alloc::Global;
 use std::io::{BufRead, Write};
 use wu_arguments::{ReadFile, fault_status};
-use wu_core::Fault;
+use wu_core::{Fault, PRESENT_VERSION};
 use wu_drive::Project;
 use wu_report::Piece;
-use wu_schema::PRESENT_VERSION;
 
 /// Writes the line with which a session begins, and flushes.
 fn write_ready<W: Write>(out: &mut W, older: Option<u64>, is_new: bool) -> Result<(), Fault>

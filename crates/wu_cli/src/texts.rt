@@ -125,6 +125,12 @@ pub(crate) fn text_of_usage<W: Write>(out: &mut W, usage: &Usage) -> Result<(), 
         Usage::Refused(text) => write_flushed(out, &[Piece::Text(text.as_str())]),
         Usage::UnknownView => write_line(out, "unknown view"),
         Usage::UnknownTopic => write_line(out, "unknown topic: lintelthyme explain lists them"),
+        Usage::UnknownKind => {
+            write_line(
+                out,
+                "unknown kind: jobs, sends, reports, classes, template or script",
+            )
+        }
         Usage::LongLine => write_line(out, "line too long"),
         Usage::NotText => text_of_cause(out, LineCause::NotText),
         Usage::Incomplete => write_line(out, "a value is missing"),
@@ -178,6 +184,7 @@ fn outsider_line(outsider: &Outsider) -> &'static str
         Outsider::Check => "a check cannot stand in a script\n",
         Outsider::Export(Export::Backup(_)) => "a backup cannot stand in a script\n",
         Outsider::Export(Export::Outputs(_)) => "outputs cannot stand in a script\n",
+        Outsider::Lint => "a lint cannot stand in a script\n",
         Outsider::Explanation => "an explanation cannot stand in a script\n",
     }
 }

@@ -1,5 +1,6 @@
 -- The world: what a project holds, independent of any tables.
 use Rattle.std.specs.Prelude.{◌≡◌, ◌≢◌, ◌⊎◌, ℕ, ◌<◌, ◌==◌, Bool, ◌&&◌, List, [], AllPairs, bytes_eq}
+use Rattle.wu_core.specs.Limits.{present_version}
 use Rattle.wu_core.specs.declared.workunit.Workunit.{Workunit}
 use Rattle.wu_core.specs.declared.workunit.Grant.{Grant}
 use Rattle.wu_core.specs.declared.workunit.Archived.{Archived}
@@ -54,7 +55,7 @@ pub record World : Type 0 where
 
 -- The world before any command, at the present version.
 abbrev pub empty_world : World
-empty_world = record { workunits = []; grants = []; archived = []; imports = []; classes = []; next_number = 1; version = 3 }
+empty_world = record { workunits = []; grants = []; archived = []; imports = []; classes = []; next_number = 1; version = present_version }
 
 -- The workunits are in order of their numbers, and no two have the same number.
 abbrev pub IsInOrder : World → Type 0

@@ -1,5 +1,4 @@
-//! The limits of this project's profile, each in one place. `specs/Limits.antt` has the same numbers under the same
-//! names.
+//! The limits of this project's profile, each in one place: `specs/Limits.antt` names these constants.
 
 /// The longest name of a workunit, a host or an import, in bytes.
 pub const LONGEST_NAME: usize = 64;
@@ -39,3 +38,15 @@ pub const LAST_MOMENT: u64 = 4_102_444_799;
 
 /// The last deadline, in seconds since 1970-01-01T00:00:00Z: the longest delay after the last moment.
 pub const LAST_DEADLINE: u64 = 4_133_980_799;
+
+/// The version of the schema that a project is created at.
+pub const PRESENT_VERSION: u64 = 3;
+
+/// The first version of the schema with a queue.
+pub const QUEUE_VERSION: u64 = 2;
+
+/// The first version of the schema with classes of hosts.
+pub const CLASS_VERSION: u64 = 3;
+
+/// The most workunits that one pass may be asked to change.
+pub const HIGHEST_LIMIT: u64 = 1_000;

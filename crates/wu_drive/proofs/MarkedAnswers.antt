@@ -5,19 +5,17 @@ use Rattle.std.specs.Option.{option_map_or}
 use Rattle.std.specs.Prelude.{⊤, codes}
 use Rattle.wu_core.specs.declared.import.ImportKind.TheVariants as kind
 use Rattle.wu_core.specs.Storable.{IsName}
-use Rattle.wu_rules.specs.declared.due.Pass.{Pass}
-use Rattle.wu_rules.specs.declared.due.Pass.TheVariants.{Transition, Validate, Assimilate, Delete, Purge}
 use Rattle.wu_rules.specs.declared.verdicts.ReportVerdict.{ReportVerdict}
 use Rattle.wu_rules.specs.declared.verdicts.ReportVerdict.TheVariants as report
 use Rattle.wu_rules.specs.declared.verdicts.SendVerdict.{SendVerdict}
 use Rattle.wu_rules.specs.declared.verdicts.SendVerdict.TheVariants as send
 use Rattle.wu_rules.specs.Verdicts.{report_verdict_word, send_verdict_word}
 use Rattle.wu_machine.specs.Requests.{Reply, Imported, Passed, Cancelled, Upgraded}
-use Rattle.wu_report.specs.Texts.{applied_count, line_end, number_or_dash}
+use Rattle.wu_report.specs.Texts.{applied_count, line_end, number_or_dash, pass_word}
 use Rattle.wu_report.proofs.MarkLemmas.{IsInside, is_unmarked, IsWhole, past, past_decimal, past_name, whole_append, whole_flat_map}
 use Rattle.wu_drive.specs.Marks.{HasValidName}
-use Rattle.wu_report.proofs.MarkedLines.{past_number}
-use Rattle.wu_drive.specs.Texts.{pass_word, reply_text, rows_text, report_skip_word, report_verdict_numbered, send_skip_word, send_verdict_numbered, skip_line, skip_lines}
+use Rattle.wu_report.proofs.MarkedLines.{begun_pass, past_number}
+use Rattle.wu_drive.specs.Texts.{reply_text, rows_text, report_skip_word, report_verdict_numbered, send_skip_word, send_verdict_numbered, skip_line, skip_lines}
 
 -- ---- lines
 
@@ -81,13 +79,6 @@ module _ (word : ℕ → Option (List ℕ)) (inside : (number : ℕ) → IfSome 
   skips_whole verdicts = whole_flat_map (λ _. ⊤) (skip_line word) (λ row _. skip_whole row) (enumerate_from 2 verdicts) (λ k d within. tt)
 
 -- ---- answers
-
-begun_pass : (pass : Pass) (rest : List ℕ) → is_unmarked true (pass_word pass ++ rest) ≡ is_unmarked false rest
-begun_pass Transition rest = refl
-begun_pass Validate rest = refl
-begun_pass Assimilate rest = refl
-begun_pass Delete rest = refl
-begun_pass Purge rest = refl
 
 rows_whole : (word name : List ℕ) → Begins word → IsName name → (skip_word : ℕ → Option (List ℕ)) → ((number : ℕ) → IfSome (skip_word number) IsInside)
     → (verdicts : List ℕ) → IsWhole (rows_text word name skip_word verdicts)

@@ -8,9 +8,7 @@ use Rattle.wu_core.specs.declared.fault.Fault.TheVariants as fault
 use Rattle.wu_core.specs.declared.import.ImportKind.{ImportKind}
 use Rattle.wu_core.specs.declared.import.ImportKind.TheVariants as kind
 use Rattle.wu_core.specs.Words.{template_key_word, file_cause_word}
-use Rattle.wu_report.specs.Texts.{applied_count, line_end, number_or_dash}
-use Rattle.wu_rules.specs.declared.due.Pass.{Pass}
-use Rattle.wu_rules.specs.declared.due.Pass.TheVariants.{Transition, Validate, Assimilate, Delete, Purge}
+use Rattle.wu_report.specs.Texts.{applied_count, line_end, number_or_dash, pass_word}
 use Rattle.wu_rules.specs.Verdicts.{report_verdict_code, report_verdict_word, send_verdict_code, send_verdict_word}
 use Rattle.wu_rules.specs.declared.verdicts.ReportVerdict.{ReportVerdict}
 use Rattle.wu_rules.specs.declared.verdicts.ReportVerdict.TheVariants as report
@@ -87,13 +85,6 @@ import_text kind.Batch name first verdicts = batch_text name first verdicts
 import_text kind.Sent name first verdicts = rows_text (codes "sent") name send_skip_word verdicts
 import_text kind.Reported name first verdicts = rows_text (codes "reported") name report_skip_word verdicts
 import_text kind.Classes name first verdicts = classes_text name verdicts
-
-abbrev pub pass_word : Pass → List ℕ
-pass_word Transition = codes "transition"
-pass_word Validate = codes "validate"
-pass_word Assimilate = codes "assimilate"
-pass_word Delete = codes "delete"
-pass_word Purge = codes "purge"
 
 -- The text of an answer.
 abbrev pub reply_text : Reply → List ℕ

@@ -2,7 +2,7 @@
 
 ghost use Rattle.std.specs.Prelude.{◌≡◌, IsOkUnless, option_map};
 ghost use Rattle.wu_core.specs.declared.fault.Fault.TheVariants.{Output};
-ghost use Rattle.wu_drive.specs.Texts.{batch_text, classes_text, import_text, pass_word, reply_text, report_skip_word, send_skip_word};
+ghost use Rattle.wu_drive.specs.Texts.{batch_text, classes_text, import_text, reply_text, report_skip_word, send_skip_word};
 ghost use Rattle.wu_machine.specs.Requests.{Cancelled, Passed, Upgraded};
 ghost use Rattle.wu_drive.specs.Writing.{answer_text, applied_text, file_word, skip_word, skipped_line, skipped_lines};
 ghost use Rattle.wu_report.specs.Writing.{CutsWhatFails, WritesTo};
@@ -10,7 +10,7 @@ ghost use Rattle.wu_report.specs.Writing.{CutsWhatFails, WritesTo};
 use std::io::Write;
 use wu_core::{Fault, ImportKind, Name};
 use wu_passes::{Answer, Pass};
-use wu_report::{Piece, applied_count, flush, number_or_dash, write_pieces};
+use wu_report::{Piece, applied_count, flush, number_or_dash, pass_word, write_pieces};
 use wu_rules::{ReportVerdict, SendVerdict};
 
 /// An imported file whose rows are applied one by one, or skipped.
@@ -181,19 +181,6 @@ fn write_import<W: Write>(
         ImportKind::Sent => write_applied(out, AppliedFile::Sends, name, verdicts),
         ImportKind::Reported => write_applied(out, AppliedFile::Reports, name, verdicts),
         ImportKind::Classes => write_classes(out, name, verdicts),
-    }
-}
-
-/// Returns the word of a pass in its answer.
-fn pass_word(pass: Pass) -> &'static str
-    ensures { result.now ≡ pass_word pass }
-{
-    match pass {
-        Pass::Transition => "transition",
-        Pass::Validate => "validate",
-        Pass::Assimilate => "assimilate",
-        Pass::Delete => "delete",
-        Pass::Purge => "purge",
     }
 }
 

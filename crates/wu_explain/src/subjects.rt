@@ -28,6 +28,7 @@ pub fn subject_text<'a>(name: &str) -> Option<&'a str>
   checks        whether a database holds a sound project
   backups       a copy of a project in a file of its own
   outputs       the outputs of finished jobs as files
+  lint          whether a file reads as its import would read it
 Faults, causes and words of skipped rows are taken as they are printed.
 ",
         ),
@@ -126,6 +127,8 @@ it answers its limit, more may be left: run it again, or behind repeat in a scri
                 ago
 A cycle runs transition, validate, transition, assimilate, transition, delete and
 purge. A pass that is repeated does what is still to do.
+The subcommand status prints a line for each pass: how many workunits it would change
+at a moment, if it had no limit, a purge with the least age 0.
 ",
         ),
         "mask" => Some(
@@ -170,6 +173,14 @@ the file. While another process has the project, there is no backup of it; a lin
   backup --to FILE
 of a session makes one between two commands. After a crash FILE is there whole or
 not at all; a FILE-part that is left may be removed.
+",
+        ),
+        "lint" => Some(
+            "lint --kind KIND --file FILE reads a file as its import would read it, and prints ok and
+its path. A kind is jobs, sends, reports, classes, template or script. Else the fault
+is that of the import: explain causes, explain template. A script is read with the
+files of its lines, as before it is run: explain scripts. No database is opened, so
+that a name is taken, or that a workunit is not there, is not noticed.
 ",
         ),
         "outputs" => Some(

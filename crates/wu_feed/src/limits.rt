@@ -1,5 +1,4 @@
-//! The limits of the files that are read, each in one place. `specs/Limits.antt` has the same numbers under the same
-//! names.
+//! The limits of the files that are read, each in one place: `specs/Limits.antt` names these constants.
 
 /// The longest file, in bytes.
 pub const LONGEST_FILE: usize = 1_048_576;

@@ -1,5 +1,5 @@
 -- The questions about whole tables: each text, what it asks for, and what its answer shows of any rows.
-use Rattle.wu_schema.proofs.Words.{Answers, Database, Error, FailsToQuery, Fault, Ghosts, HasTables, Held, IfErr, IsFailure, ProjectTrees, Result, Vec, fault_of, false, length, state, HasTable, Int, IsPermutation, IsTable, List, None, Row, Shown, State, Table, Name, [], ap, archived_at, arith, codes, eval_all, everything, grant_at, host_at, import_at, lit, map, negsuc, project_at, refl, result_at, subst, sym, host_class_at, workunit_at, workunit_class_at, ℕ, ◌++◌, ◌∙◌, ◌∷◌, ◌≡◌}
+use Rattle.wu_schema.proofs.Words.{Answers, Database, Error, FailsToQuery, Fault, Ghosts, HasTables, Held, IfErr, IsFailure, ProjectTrees, Result, Vec, fault_of, false, length, state, HasTable, Int, IsPermutation, IsTable, List, None, Row, Shown, State, Table, Name, [], ap, archived_at, arith, codes, eval_all, everything, grant_at, host_at, import_at, lit, map, negsuc, project_at, refl, result_at, subst, sym, host_class_at, workunit_at, workunit_class_at, ℕ, ◌∙◌, ◌∷◌, ◌≡◌}
 use Rattle.wu_schema.proofs.AnswerLemmas.{answers_are, shown_answers}
 use Rattle.wu_schema.proofs.Parts.{IsIn, Part, name_of, parts_in, table_in}
 use Rattle.wu_schema.proofs.QueryLemmas.{alone, plain_query}
@@ -10,8 +10,8 @@ use Rattle.wu_schema.proofs.ToldLemmas.{asked_told}
 use Rattle.wu_schema.specs.Asking.{Asks, FailsAll, IsSelect, ServesUnlessFailed, ShowsAll}
 use Rattle.wu_schema.specs.Faults.{IsStoreFault}
 use Rattle.wu_store.proofs.OrderAnswers.{sorted, sure_in_order}
-use Rattle.wu_store.proofs.SelectTexts.{workunit_columns, instance_columns}
 use Rattle.wu_loader.specs.Asked.{HasArranged, Looks}
+use Rattle.wu_loader.specs.declared.texts.TheConstants.{SELECT_ARCHIVE, SELECT_GRANTS, SELECT_HOSTS, SELECT_HOST_CLASSES, SELECT_IMPORTS, SELECT_PROJECT, SELECT_RESULTS, SELECT_WORKUNITS, SELECT_WORKUNIT_CLASSES}
 
 -- ---- the law of a question about a whole table
 
@@ -66,63 +66,63 @@ module _ (version : ℕ) (p : Part) (in_p : IsIn p version) (q : Asked) (fits : 
 -- ---- each table
 
 abbrev pub project_asked : Asked
-project_asked = record (whole_table (codes "SELECT one, version, next_number FROM project ORDER BY one") (0 ∷ 1 ∷ 2 ∷ [])) { order = 0 ∷ [] }
+project_asked = record (whole_table SELECT_PROJECT.now (0 ∷ 1 ∷ 2 ∷ [])) { order = 0 ∷ [] }
 
 pub project_fits : (tree : ℕ) → Fits (codes "project") (project_at tree) project_asked
 unfolding everything
 project_fits tree = record { shown = refl; tests = refl; strict = refl; order = refl; height = (0, tt); few = omega arith; limit = λ schema. refl; read = refl; typed = refl }
 
 abbrev pub workunits_asked : Asked
-workunits_asked = record (whole_table (codes "SELECT " ++ workunit_columns ++ codes " FROM workunit ORDER BY number") (0 ∷ 1 ∷ 2 ∷ 3 ∷ 4 ∷ 5 ∷ 6 ∷ 7 ∷ 8 ∷ 9 ∷ 10 ∷ 11 ∷ 12 ∷ 13 ∷ 14 ∷ [])) { order = 0 ∷ [] }
+workunits_asked = record (whole_table SELECT_WORKUNITS.now (0 ∷ 1 ∷ 2 ∷ 3 ∷ 4 ∷ 5 ∷ 6 ∷ 7 ∷ 8 ∷ 9 ∷ 10 ∷ 11 ∷ 12 ∷ 13 ∷ 14 ∷ [])) { order = 0 ∷ [] }
 
 pub workunits_fits : (tree : ℕ) → Fits (codes "workunit") (workunit_at tree) workunits_asked
 unfolding everything
 workunits_fits tree = record { shown = refl; tests = refl; strict = refl; order = refl; height = (0, tt); few = omega arith; limit = λ schema. refl; read = refl; typed = refl }
 
 abbrev pub instances_asked : Asked
-instances_asked = record (whole_table (codes "SELECT workunit, n, " ++ instance_columns ++ codes " FROM result") (0 ∷ 1 ∷ 2 ∷ 3 ∷ 4 ∷ 5 ∷ 6 ∷ 7 ∷ 8 ∷ 9 ∷ 10 ∷ [])) { order = [] }
+instances_asked = record (whole_table SELECT_RESULTS.now (0 ∷ 1 ∷ 2 ∷ 3 ∷ 4 ∷ 5 ∷ 6 ∷ 7 ∷ 8 ∷ 9 ∷ 10 ∷ [])) { order = [] }
 
 pub instances_fits : (tree : ℕ) → Fits (codes "result") (result_at tree) instances_asked
 unfolding everything
 instances_fits tree = record { shown = refl; tests = refl; strict = refl; order = refl; height = (0, tt); few = omega arith; limit = λ schema. refl; read = refl; typed = refl }
 
 abbrev pub grants_asked : Asked
-grants_asked = record (whole_table (codes "SELECT seq, workunit, n, host, credit FROM credit_grant ORDER BY seq") (0 ∷ 1 ∷ 2 ∷ 3 ∷ 4 ∷ [])) { order = 0 ∷ [] }
+grants_asked = record (whole_table SELECT_GRANTS.now (0 ∷ 1 ∷ 2 ∷ 3 ∷ 4 ∷ [])) { order = 0 ∷ [] }
 
 pub grants_fits : (tree : ℕ) → Fits (codes "credit_grant") (grant_at tree) grants_asked
 unfolding everything
 grants_fits tree = record { shown = refl; tests = refl; strict = refl; order = refl; height = (0, tt); few = omega arith; limit = λ schema. refl; read = refl; typed = refl }
 
 abbrev pub hosts_asked : Asked
-hosts_asked = record (whole_table (codes "SELECT name, total, grants FROM host") (0 ∷ 1 ∷ 2 ∷ [])) { order = [] }
+hosts_asked = record (whole_table SELECT_HOSTS.now (0 ∷ 1 ∷ 2 ∷ [])) { order = [] }
 
 pub hosts_fits : (tree : ℕ) → Fits (codes "host") (host_at tree) hosts_asked
 unfolding everything
 hosts_fits tree = record { shown = refl; tests = refl; strict = refl; order = refl; height = (0, tt); few = omega arith; limit = λ schema. refl; read = refl; typed = refl }
 
 abbrev pub archived_asked : Asked
-archived_asked = record (whole_table (codes "SELECT seq, number, name, error_mask, canonical, output, done_at FROM archived ORDER BY seq") (0 ∷ 1 ∷ 2 ∷ 3 ∷ 4 ∷ 5 ∷ 6 ∷ [])) { order = 0 ∷ [] }
+archived_asked = record (whole_table SELECT_ARCHIVE.now (0 ∷ 1 ∷ 2 ∷ 3 ∷ 4 ∷ 5 ∷ 6 ∷ [])) { order = 0 ∷ [] }
 
 pub archived_fits : (tree : ℕ) → Fits (codes "archived") (archived_at tree) archived_asked
 unfolding everything
 archived_fits tree = record { shown = refl; tests = refl; strict = refl; order = refl; height = (0, tt); few = omega arith; limit = λ schema. refl; read = refl; typed = refl }
 
 abbrev pub imports_asked : Asked
-imports_asked = record (whole_table (codes "SELECT kind, name, template, content, first_number, verdicts FROM import") (0 ∷ 1 ∷ 2 ∷ 3 ∷ 4 ∷ 5 ∷ [])) { order = [] }
+imports_asked = record (whole_table SELECT_IMPORTS.now (0 ∷ 1 ∷ 2 ∷ 3 ∷ 4 ∷ 5 ∷ [])) { order = [] }
 
 pub imports_fits : (tree : ℕ) → Fits (codes "import") (import_at tree) imports_asked
 unfolding everything
 imports_fits tree = record { shown = refl; tests = refl; strict = refl; order = refl; height = (0, tt); few = omega arith; limit = λ schema. refl; read = refl; typed = refl }
 
 abbrev pub host_classes_asked : Asked
-host_classes_asked = record (whole_table (codes "SELECT host, class FROM host_class") (0 ∷ 1 ∷ [])) { order = [] }
+host_classes_asked = record (whole_table SELECT_HOST_CLASSES.now (0 ∷ 1 ∷ [])) { order = [] }
 
 pub host_classes_fits : (tree : ℕ) → Fits (codes "host_class") (host_class_at tree) host_classes_asked
 unfolding everything
 host_classes_fits tree = record { shown = refl; tests = refl; strict = refl; order = refl; height = (0, tt); few = omega arith; limit = λ schema. refl; read = refl; typed = refl }
 
 abbrev pub work_classes_asked : Asked
-work_classes_asked = record (whole_table (codes "SELECT workunit, class FROM workunit_class ORDER BY workunit") (0 ∷ 1 ∷ [])) { order = 0 ∷ [] }
+work_classes_asked = record (whole_table SELECT_WORKUNIT_CLASSES.now (0 ∷ 1 ∷ [])) { order = 0 ∷ [] }
 
 pub work_classes_fits : (tree : ℕ) → Fits (codes "workunit_class") (workunit_class_at tree) work_classes_asked
 unfolding everything

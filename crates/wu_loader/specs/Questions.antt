@@ -1,5 +1,5 @@
 -- The question about each table, and what its answer shows.
-use Rattle.std.specs.Prelude.{◌≡◌, ℕ, List, codes, map, ⊤}
+use Rattle.std.specs.Prelude.{◌≡◌, ℕ, List, map, ⊤}
 use Rattle.std.specs.List.Sorted.{IsPermutation}
 use Rattle.sqlite.specs.Order.{Row}
 use Rattle.sqlite.specs.Tree.{Trees}
@@ -7,20 +7,19 @@ use Rattle.wu_schema.specs.Tables.{IsClassedVersion, ProjectTrees}
 use Rattle.wu_loader.specs.Shown.{keyed, unkeyed}
 use Rattle.wu_loader.specs.declared.finding.LoadedTable.{LoadedTable}
 use Rattle.wu_loader.specs.declared.finding.LoadedTable.TheVariants as table
+use Rattle.wu_loader.specs.declared.texts.TheConstants.{SELECT_ARCHIVE, SELECT_GRANTS, SELECT_HOSTS, SELECT_HOST_CLASSES, SELECT_IMPORTS, SELECT_PROJECT, SELECT_RESULTS, SELECT_WORKUNITS, SELECT_WORKUNIT_CLASSES}
 
 -- The question for all rows of a table: in order of the key if that is the rowid, else in any order.
 abbrev pub question : LoadedTable → List ℕ
-question table.Project = codes "SELECT one, version, next_number FROM project ORDER BY one"
-question table.Workunit =
-    codes "SELECT number, name, min_quorum, target_nresults, max_error_results, max_total_results, max_success_results, delay_bound, credit, input, error_mask, canonical, assimilate, file_delete, done_at FROM workunit ORDER BY number"
-question table.Result =
-    codes "SELECT workunit, n, server_state, outcome, validate_state, file_delete, host, sent_at, deadline, received_at, output FROM result"
-question table.CreditGrant = codes "SELECT seq, workunit, n, host, credit FROM credit_grant ORDER BY seq"
-question table.Host = codes "SELECT name, total, grants FROM host"
-question table.Archived = codes "SELECT seq, number, name, error_mask, canonical, output, done_at FROM archived ORDER BY seq"
-question table.Import = codes "SELECT kind, name, template, content, first_number, verdicts FROM import"
-question table.HostClass = codes "SELECT host, class FROM host_class"
-question table.WorkunitClass = codes "SELECT workunit, class FROM workunit_class ORDER BY workunit"
+question table.Project = SELECT_PROJECT.now
+question table.Workunit = SELECT_WORKUNITS.now
+question table.Result = SELECT_RESULTS.now
+question table.CreditGrant = SELECT_GRANTS.now
+question table.Host = SELECT_HOSTS.now
+question table.Archived = SELECT_ARCHIVE.now
+question table.Import = SELECT_IMPORTS.now
+question table.HostClass = SELECT_HOST_CLASSES.now
+question table.WorkunitClass = SELECT_WORKUNIT_CLASSES.now
 
 -- The version has the table.
 abbrev pub IsTableIn : ℕ → LoadedTable → Type 0

@@ -12,8 +12,10 @@ mod hosts;
 mod loading;
 pub mod rows;
 pub mod tables;
+mod texts;
 mod whole;
 mod works;
 pub mod world;
 
 pub use loading::load_world;
+pub use texts::SELECT_PROJECT;

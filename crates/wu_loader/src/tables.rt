@@ -7,9 +7,13 @@ ghost use Rattle.wu_loader.specs.Questions.{IsTableIn, question, ShowsTable};
 ghost use Rattle.wu_loader.specs.Shown.{Shows, ShowsClasses, ShowsPlain};
 
 use crate::finding::LoadedTable;
+use crate::texts::{
+    SELECT_ARCHIVE, SELECT_GRANTS, SELECT_HOST_CLASSES, SELECT_HOSTS, SELECT_IMPORTS,
+    SELECT_PROJECT, SELECT_RESULTS, SELECT_WORKUNIT_CLASSES, SELECT_WORKUNITS,
+};
 use sqlite::{Alter, Connection, Row};
 use std::alloc::Global;
-use wu_core::Fault;
+use wu_core::{CLASS_VERSION, Fault};
 use wu_schema::query;
 
 /// The rows of the tables that every version has, as questions show them.
@@ -39,29 +43,20 @@ pub struct TableRows {
     pub classes: Option<ClassRows>,
 }
 
-/// The version of the schema from which on there are classes.
-const CLASS_VERSION: u64 = 3;
-
 /// Returns the question for all rows of a table: in order of the key if that is the rowid, else in any order.
 fn question(table: LoadedTable) -> &'static str
     ensures { result.now ≡ question table }
 {
     match table {
-        LoadedTable::Project => "SELECT one, version, next_number FROM project ORDER BY one",
-        LoadedTable::Workunit =>
-            "SELECT number, name, min_quorum, target_nresults, max_error_results, max_total_results, max_success_results, delay_bound, credit, input, error_mask, canonical, assimilate, file_delete, done_at FROM workunit ORDER BY number",
-        LoadedTable::Result =>
-            "SELECT workunit, n, server_state, outcome, validate_state, file_delete, host, sent_at, deadline, received_at, output FROM result",
-        LoadedTable::CreditGrant =>
-            "SELECT seq, workunit, n, host, credit FROM credit_grant ORDER BY seq",
-        LoadedTable::Host => "SELECT name, total, grants FROM host",
-        LoadedTable::Archived =>
-            "SELECT seq, number, name, error_mask, canonical, output, done_at FROM archived ORDER BY seq",
-        LoadedTable::Import =>
-            "SELECT kind, name, template, content, first_number, verdicts FROM import",
-        LoadedTable::HostClass => "SELECT host, class FROM host_class",
-        LoadedTable::WorkunitClass =>
-            "SELECT workunit, class FROM workunit_class ORDER BY workunit",
+        LoadedTable::Project => SELECT_PROJECT,
+        LoadedTable::Workunit => SELECT_WORKUNITS,
+        LoadedTable::Result => SELECT_RESULTS,
+        LoadedTable::CreditGrant => SELECT_GRANTS,
+        LoadedTable::Host => SELECT_HOSTS,
+        LoadedTable::Archived => SELECT_ARCHIVE,
+        LoadedTable::Import => SELECT_IMPORTS,
+        LoadedTable::HostClass => SELECT_HOST_CLASSES,
+        LoadedTable::WorkunitClass => SELECT_WORKUNIT_CLASSES,
     }
 }
 

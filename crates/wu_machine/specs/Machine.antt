@@ -5,6 +5,7 @@ use Rattle.wu_core.specs.declared.fault.Fault.{Fault}
 use Rattle.wu_core.specs.declared.fault.Fault.TheVariants.{BadLimit, UnknownWorkunit, NotOpenToCancel, OldSchema}
 use Rattle.wu_core.specs.declared.workunit.Workunit.{Workunit}
 use Rattle.wu_core.specs.Limits.{last_moment, longest_age}
+pub use Rattle.wu_core.specs.Limits.{highest_limit, present_version}
 use Rattle.wu_core.specs.World.{World}
 use Rattle.wu_rules.specs.Counts.{is_undecided}
 use Rattle.wu_rules.specs.Cancelling.{cancelled}
@@ -17,18 +18,10 @@ use Rattle.wu_rules.specs.declared.due.Pass.TheVariants.{Purge}
 use Rattle.wu_machine.specs.Requests.{Request, AskBatch, AskSent, AskReported, AskClasses, AskPass, AskCancel, AskUpgrade, Reply, Passed, Cancelled, Upgraded}
 use Rattle.wu_machine.specs.Worlds.{workunit_named, with_named}
 
--- The version that a new project has.
-abbrev pub present_version : ℕ
-present_version = 3
-
 -- Whether the least age is right: that of a purge is at most a year, and other passes have none.
 abbrev pub is_age_right : Pass → ℕ → Bool
 is_age_right Purge min_age = nat_le min_age longest_age
 is_age_right _ min_age = true
-
--- The most workunits that one pass may be asked to change.
-abbrev pub highest_limit : ℕ
-highest_limit = 1000
 
 -- Whether the limits of a pass are right: its limit is from 1 to 1000, and the least age of a purge at most a year.
 abbrev pub is_limit_right : Pass → ℕ → ℕ → Bool

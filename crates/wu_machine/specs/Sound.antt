@@ -6,7 +6,7 @@ use Rattle.wu_core.specs.declared.workunit.Grant.{Grant}
 use Rattle.wu_core.specs.declared.workunit.Workunit.{Workunit}
 use Rattle.wu_core.specs.Classes.{AreClassed, AreInOrder}
 use Rattle.wu_core.specs.Formed.{IsWorkunit}
-use Rattle.wu_core.specs.Limits.{most_credit, most_instances, most_workunits}
+use Rattle.wu_core.specs.Limits.{class_version, most_credit, most_instances, most_workunits}
 use Rattle.wu_core.specs.Mask.{IsPossibleMask}
 use Rattle.wu_core.specs.World.{World, IsInOrder}
 use Rattle.wu_rules.specs.Consistent.{IsConsistent, IsGrantFor, IsRowOf, is_done, is_valid_at, one_if}
@@ -38,17 +38,13 @@ HasPossibleMask row = IsPossibleMask row.error_mask
 abbrev pub IsGiven : World → ℕ → Type 0
 IsGiven world number = (1 ≤ number) × (number < world.next_number)
 
--- The first version with classes of hosts.
-abbrev pub first_with_classes : ℕ
-first_with_classes = 3
-
 -- No host and no workunit has a class.
 abbrev pub IsClassless : World → Type 0
 IsClassless world = (world.classes ≡ []) × All (λ w. w.class ≡ 0) world.workunits
 
 -- A world of a version without classes has none.
 abbrev pub HasClassesInTime : World → Type 0
-HasClassesInTime world = world.version < first_with_classes → IsClassless world
+HasClassesInTime world = world.version < class_version → IsClassless world
 
 pub record IsSound (world : World) : Type 0 where
   pub next_number : (1 ≤ world.next_number) × (world.next_number ≤ most_workunits + 1)

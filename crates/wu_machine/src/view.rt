@@ -1,5 +1,7 @@
 //! Views of a project.
 
+use wu_core::Moment;
+
 /// A view of a project.
 #[derive(Clone, Copy, PartialEq, Eq)]
 pub enum View {
@@ -17,4 +19,6 @@ pub enum View {
     Classes,
     /// A line for each import, in order of its kind and of the bytes of its name.
     Imports,
+    /// A line for each pass: how many workunits it would change at this moment.
+    Status(Moment),
 }

@@ -2,13 +2,14 @@
 use Rattle.std.proofs.Common.{◌≡◌, true, List, [], ◌∷◌, ◌++◌, append_assoc, append-nil, ◌≤◌, refl, sym, ap, subst, ◌∙◌}
 use Rattle.std.proofs.lemmas.List.Elements.{All-head, All-tail}
 use Rattle.std.specs.List.{All, flat_map}
+use Rattle.wu_core.specs.Limits.{class_version}
 use Rattle.wu_core.specs.World.{World}
 use Rattle.wu_core.specs.declared.workunit.Archived.{Archived}
 use Rattle.wu_core.specs.declared.workunit.Grant.{Grant}
 use Rattle.wu_core.specs.declared.workunit.Workunit.{Workunit}
 use Rattle.wu_rules.specs.Consistent.{is_done, Rewrites}
 use Rattle.wu_core.specs.Storable.{IsStoredArchived, IsStorable}
-use Rattle.wu_machine.specs.Sound.{first_with_classes, IsRecorded, IsSound}
+use Rattle.wu_machine.specs.Sound.{IsRecorded, IsSound}
 use Rattle.wu_machine_laws.proofs.Lasts.{Leads, lasts_rewritten, lasts_same, lasts_then, lasts_without}
 use Rattle.wu_machine_laws.proofs.Middles.{around}
 use Rattle.wu_machine_laws.proofs.Rewriting.{sound_rewritten, sound_without}
@@ -30,7 +31,7 @@ module _ (world : World) where
   same_holding P ws vs gs hs rows more e f g it = subst (λ x. P (holding x hs more)) e
       (subst (λ y. P (holding ws y more)) f (subst (λ z. P (holding ws gs z)) g it))
 
-module _ (world : World) (young : first_with_classes ≤ world.version) where
+module _ (world : World) (young : class_version ≤ world.version) where
   -- one of them
   became : (us : List Workunit) (w : Workunit) (ws : List Workunit) (gs : List Grant) (rows : List Archived) (vs : List Workunit) (hs : List Grant)
       (more : List Archived) → Becomes w vs hs more

@@ -6,7 +6,7 @@ use Rattle.std.proofs.lemmas.Option.{get_or_from_slice_get, slice_get_within}
 use Rattle.std.specs.List.{All, filter}
 use Rattle.std.specs.Option.{option_map_or}
 use Rattle.std.specs.Prelude.{◌&&◌, not, slice_get}
-use Rattle.wu_core.specs.Limits.{most_credit, most_instances}
+use Rattle.wu_core.specs.Limits.{class_version, most_credit, most_instances}
 use Rattle.wu_core.specs.Formed.{IsWorkunit}
 use Rattle.wu_core.specs.Mask.{IsPossibleMask}
 use Rattle.wu_core.specs.World.{World}
@@ -17,7 +17,7 @@ use Rattle.wu_core.specs.declared.workunit.Workunit.{Workunit}
 use Rattle.wu_rules.specs.Consistent.{instance_host, IsConsistent, IsGrantFor, IsRowOf, is_done, is_valid_at, one_if, Rewrites}
 use Rattle.wu_rules_laws.proofs.Rewriting.{canonical_stays}
 use Rattle.wu_core.specs.Storable.{AreStoredInstances, IsHost, IsName, IsStoredArchived, IsStoredInstance, IsStorable}
-use Rattle.wu_machine.specs.Sound.{first_with_classes, HasPossibleMask, IsGiven, IsRecorded, IsSound}
+use Rattle.wu_machine.specs.Sound.{HasPossibleMask, IsGiven, IsRecorded, IsSound}
 use Rattle.wu_machine_laws.proofs.Middles.{around, count_agree, count_all, count_append, count_none, counted, from_pairs, instead, none_counted, Pairs, pairs_append, pairs_around, pairs_instead, pairs_of_one, pairs_without, to_pairs, without}
 use Rattle.wu_machine_laws.proofs.SoundLemmas.{too_old}
 use Rattle.wu_machine_laws.proofs.SoundParts.{Differ, GrantsDiffer, is_at, is_for, is_row_of, IsGrantIn, IsGrantOf, IsIn, IsItsRow, IsNamedAlike, IsOwn, IsOwnRow, IsRowIn, IsToName, Ordered, RowNamesDiffer, RowsDiffer}
@@ -114,7 +114,7 @@ once (g ∷ gs) each = (
 
 -- ---- one workunit rewritten
 
-module _ (world : World) (young : first_with_classes ≤ world.version) (us : List Workunit) (w : Workunit) (ws : List Workunit) where
+module _ (world : World) (young : class_version ≤ world.version) (us : List Workunit) (w : Workunit) (ws : List Workunit) where
   -- the world with the workunit in its place
   abbrev before : World
   before = record world { workunits = us ++ w ∷ ws }

@@ -1,11 +1,12 @@
 -- What follows from soundness.
 use Rattle.std.proofs.Common.{ℕ, suc, ◌<◌, ◌≤◌, List, [], ◌∷◌, length, get_or, arith}
 use Rattle.std.proofs.lemmas.List.Elements.{All-get_or, All-nil, All-weaker}
+use Rattle.wu_core.specs.Limits.{class_version}
 use Rattle.wu_core.specs.World.{World, Import, empty_world}
 use Rattle.wu_core.specs.declared.workunit.Workunit.{Workunit}
 use Rattle.wu_core.specs.Storable.{AreVerdicts, IsName, IsAbove}
 use Rattle.wu_machine.specs.Machine.{present_version}
-use Rattle.wu_machine.specs.Sound.{first_with_classes, IsProject, IsGiven, IsRecorded, IsSound}
+use Rattle.wu_machine.specs.Sound.{IsProject, IsGiven, IsRecorded, IsSound}
 
 -- where all numbers are below this one, it is above them
 above_from : (n : ℕ) (ws : List Workunit) → ((i : ℕ) (d : Workunit) → i < length ws → (get_or ws i d).number < n) → IsAbove n ws
@@ -37,7 +38,7 @@ abbrev pub now_of : World → World
 now_of world = record world { version = present_version }
 
 -- a version with classes is none without
-pub too_old : {A : Type 0} (version : ℕ) → first_with_classes ≤ version → version < first_with_classes → A
+pub too_old : {A : Type 0} (version : ℕ) → class_version ≤ version → version < class_version → A
 too_old version young old = absurd (omega (arith, young, old))
 
 -- at the present version it is sound too

@@ -8,7 +8,7 @@ use Rattle.std.specs.List.{list_all, All, filter, flat_map}
 use Rattle.std.specs.Option.{option_map_or}
 use Rattle.std.specs.Prelude.{◌+◌, ◌&&◌, nat_le, ◌||◌, if◌then◌else◌, option_to_list, slice_get}
 use Rattle.wu_core.specs.Formed.{IsWorkunit}
-use Rattle.wu_core.specs.Limits.{last_moment, longest_output}
+use Rattle.wu_core.specs.Limits.{class_version, last_moment, longest_output}
 use Rattle.wu_core.specs.World.{World}
 use Rattle.wu_core.specs.declared.workunit.Instance.{Instance}
 use Rattle.wu_core.specs.declared.workunit.Workunit.{Workunit}
@@ -22,7 +22,7 @@ use Rattle.wu_rules.specs.declared.due.Pass.{Pass}
 use Rattle.wu_rules.specs.declared.due.Pass.TheVariants.{Transition, Validate, Assimilate, Delete, Purge}
 use Rattle.wu_machine.specs.Machine.{is_limit_right, step}
 use Rattle.wu_machine.specs.Passes.{archives, granted, images, is_among, passed}
-use Rattle.wu_machine.specs.Sound.{first_with_classes, IsProject, IsSound}
+use Rattle.wu_machine.specs.Sound.{IsProject, IsSound}
 use Rattle.wu_machine.specs.Requests.{AskPass}
 use Rattle.wu_machine.proofs.PassKeeps.{keeps_project_pass}
 use Rattle.wu_machine.proofs.ImageLemmas.{gives_nothing}
@@ -178,7 +178,7 @@ module _ (pass : Pass) (now limit min_age : ℕ) (low : now ≤ last_moment) whe
   )
   image_becomes w formed consistent storable Purge is stored = (refl, refl, purged_done w now min_age is)
 
-  module _ (world : World) (sound : IsSound world) (young : first_with_classes ≤ world.version) (right : is_limit_right pass limit min_age ≡ true) where
+  module _ (world : World) (sound : IsSound world) (young : class_version ≤ world.version) (right : is_limit_right pass limit min_age ≡ true) where
     -- those that are taken
     abbrev taken : List Workunit
     taken = chosen pass now min_age limit world

@@ -6,6 +6,7 @@ use Rattle.std.proofs.lemmas.List.Elements.{All-cons, All-head, All-nil, All-tai
 use Rattle.std.proofs.lemmas.Slice.Eq.{bytes_eq-Decides}
 use Rattle.std.specs.List.{All, flat_map}
 use Rattle.std.specs.Prelude.{find, if◌then◌else◌}
+use Rattle.wu_core.specs.Limits.{class_version}
 use Rattle.wu_core.specs.Classes.{AreClassed, class_of, IsClassed}
 use Rattle.wu_core.specs.Formed.{IsWorkunit}
 use Rattle.wu_core.specs.World.{World}
@@ -29,7 +30,7 @@ use Rattle.wu_core.specs.Storable.{IsStoredArchived, IsStorable}
 use Rattle.wu_core.proofs.ClassLemmas.{classed-set, in_order-set}
 use Rattle.wu_machine.specs.FileRows.{Rule, after_classes, after_row, after_rows, report_rule, row_verdict, send_rule}
 use Rattle.wu_machine.specs.Machine.{cancel_done, IsUpToDate, step, world_of}
-use Rattle.wu_machine.specs.Sound.{first_with_classes, IsProject, IsRecorded, IsSound}
+use Rattle.wu_machine.specs.Sound.{IsProject, IsRecorded, IsSound}
 use Rattle.wu_machine.specs.Requests.{AskCancel}
 use Rattle.wu_machine.specs.Worlds.{with_host_class, with_named, workunit_named}
 use Rattle.wu_machine.proofs.PassKeeps.{keeps_project_cancel}
@@ -55,7 +56,7 @@ found_named name (w ∷ ws) apart =
       | inr not ↦ rw not (found_named name ws apart.1 k d low here)
     ])
 
-module _ (world : World) (sound : IsSound world) (young : first_with_classes ≤ world.version) (name : List ℕ) (image : Workunit → Workunit) where
+module _ (world : World) (sound : IsSound world) (young : class_version ≤ world.version) (name : List ℕ) (image : Workunit → Workunit) where
   -- a workunit with the one of the name changed
   abbrev changed : Workunit → Workunit
   changed w = if bytes_eq w.name name then image w else w
@@ -101,7 +102,7 @@ module _ (world : World) (sound : IsSound world) (young : first_with_classes ≤
 
 -- ---- a cancel
 
-module _ (world : World) (sound : IsSound world) (young : first_with_classes ≤ world.version) (name : List ℕ) where
+module _ (world : World) (sound : IsSound world) (young : class_version ≤ world.version) (name : List ℕ) where
   -- a cancel of what is found under the name
   cancel_found : (found : Option Workunit) → workunit_named world name ≡ found → Leads world (world_of world (cancel_done world name found))
   cancel_found None is = (sound, lasts_same world)
@@ -125,7 +126,7 @@ module _ {Row : Type 0} (rule : Rule Row) (IsRow : Row → Type 0) (keeps : (row
     → IsProject (after_row rule world row))
     (rewrites : (row : Row) (w : Workunit) → IsWorkunit w → IsConsistent w → rule.verdict row w ≡ 0 → Rewrites w (rule.image row w) [] []) where
   -- a row leads to a sound world
-  sound_row : (row : Row) → IsRow row → (world : World) → first_with_classes ≤ world.version → IsSound world → Leads world (after_row rule world row)
+  sound_row : (row : Row) → IsRow row → (world : World) → class_version ≤ world.version → IsSound world → Leads world (after_row rule world row)
   sound_row row ranged world young sound = elim (cases_Bool (row_verdict rule world row == 0)) [
     | inl applied ↦
         let kept : IsProject (after_row rule (now_of world) row) = keeps row ranged (now_of world) refl (project_now world sound) in
@@ -138,11 +139,11 @@ module _ {Row : Type 0} (rule : Rule Row) (IsRow : Row → Type 0) (keeps : (row
   ]
 
   -- so do the rows of a file
-  pub sound_rows : (rows : List Row) → All IsRow rows → (world : World) → first_with_classes ≤ world.version → IsSound world → Leads world (after_rows rule world rows)
+  pub sound_rows : (rows : List Row) → All IsRow rows → (world : World) → class_version ≤ world.version → IsSound world → Leads world (after_rows rule world rows)
   sound_rows [] ranged world young sound = (sound, lasts_same world)
   sound_rows (row ∷ rows) ranged world young sound =
       let one : Leads world (after_row rule world row) = sound_row row (All-head IsRow row rows ranged) world young sound in
-      let still : first_with_classes ≤ (after_row rule world row).version = subst (λ n. first_with_classes ≤ n) (sym (same_rows rule world (row ∷ [])).version) young in
+      let still : class_version ≤ (after_row rule world row).version = subst (λ n. class_version ≤ n) (sym (same_rows rule world (row ∷ [])).version) young in
       let rest = sound_rows rows (All-tail IsRow row rows ranged) (after_row rule world row) still one.0 in
       (rest.0, lasts_then world (after_row rule world row) (after_rows rule (after_row rule world row) rows) one.1 rest.1)
 
@@ -155,7 +156,7 @@ send_applied send.SameHost is = absurd cc
 send_applied send.Class is = absurd cc
 
 -- sends do
-pub sound_sends : (classes : List HostClass) → AreClassed classes → (rows : List SendRow) → All IsSendRow rows → (world : World) → first_with_classes ≤ world.version
+pub sound_sends : (classes : List HostClass) → AreClassed classes → (rows : List SendRow) → All IsSendRow rows → (world : World) → class_version ≤ world.version
     → IsSound world → Leads world (after_rows (send_rule classes) world rows)
 sound_sends classes are =
     sound_rows (send_rule classes) IsSendRow
@@ -164,7 +165,7 @@ sound_sends classes are =
     (send_applied (send_verdict_in w row.n row.host (class_of classes row.host)) applied))
 
 -- reports do
-pub sound_reports : (rows : List ReportRow) → All IsReportRow rows → (world : World) → first_with_classes ≤ world.version → IsSound world → Leads world (after_rows report_rule world rows)
+pub sound_reports : (rows : List ReportRow) → All IsReportRow rows → (world : World) → class_version ≤ world.version → IsSound world → Leads world (after_rows report_rule world rows)
 sound_reports =
     sound_rows report_rule IsReportRow
     (λ row ranged world is project. reports_keep (row ∷ []) world (All-cons IsReportRow row [] ranged (All-nil IsReportRow)) is project)
@@ -174,7 +175,7 @@ sound_reports =
 -- ---- the rows of a file of classes
 
 -- a host's class that is set leads to a sound world
-sound_classed : (it : HostClass) → IsClassed it → (world : World) → first_with_classes ≤ world.version → IsSound world → Leads world (with_host_class world it)
+sound_classed : (it : HostClass) → IsClassed it → (world : World) → class_version ≤ world.version → IsSound world → Leads world (with_host_class world it)
 sound_classed it ranged world young sound = (
   record {
     next_number = sound.next_number;
@@ -204,7 +205,7 @@ sound_classed it ranged world young sound = (
 )
 
 -- so do the rows of a file
-pub sound_classes : (rows : List HostClass) → AreClassed rows → (world : World) → first_with_classes ≤ world.version → IsSound world
+pub sound_classes : (rows : List HostClass) → AreClassed rows → (world : World) → class_version ≤ world.version → IsSound world
     → Leads world (after_classes world rows)
 sound_classes [] ranged world young sound = (sound, lasts_same world)
 sound_classes (row ∷ rows) ranged world young sound =

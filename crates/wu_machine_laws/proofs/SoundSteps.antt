@@ -6,7 +6,7 @@ use Rattle.std.proofs.lemmas.List.Elements.{All-head, All-replicate, All-tail}
 use Rattle.std.specs.List.{All, enumerate_from}
 use Rattle.std.specs.Prelude.{find, if◌then◌else◌}
 use Rattle.wu_core.specs.Classes.{AreClassed}
-use Rattle.wu_core.specs.Limits.{most_workunits}
+use Rattle.wu_core.specs.Limits.{class_version, most_workunits}
 use Rattle.wu_core.specs.Parameters.{Parameters}
 use Rattle.wu_core.specs.World.{World, Import, is_import, last_skip}
 use Rattle.wu_core.specs.declared.fault.Fault.{Fault}
@@ -25,7 +25,7 @@ use Rattle.wu_machine.specs.Batches.{all_applied, first_number, first_taken, unl
 use Rattle.wu_machine.specs.FileRows.{Rule, after_classes, after_rows, report_rule, row_verdicts, send_rule}
 use Rattle.wu_machine.specs.Imports.{batch_given, batch_read, classes_given, classes_read, Done, Given, has_content, import_of, imported_after, jobs_kept, kept_import, reported_given, rows_read, sent_given}
 use Rattle.wu_machine.specs.Machine.{done_now, fold_steps, HasValues, is_limit_right, is_upgrade, pass_done, present_version, step, world_of}
-use Rattle.wu_machine.specs.Sound.{first_with_classes, IsProject, IsSound}
+use Rattle.wu_machine.specs.Sound.{IsProject, IsSound}
 use Rattle.wu_machine.specs.Requests.{Request, AskBatch, AskClasses, AskSent, AskReported, AskPass, AskCancel, AskUpgrade}
 use Rattle.wu_machine.proofs.BatchKeeps.{keeps_project, news, with_kept}
 use Rattle.wu_machine.proofs.ImportLemmas.{same_classes, same_rows}
@@ -119,7 +119,7 @@ module _ (world : World) (sound : IsSound world) where
       (kept.0, lasts_then world (after_rows rule world rows) (with_kept import (after_rows rule world rows)) done_rows.0.1 kept.1)
 
   -- of a version with classes
-  module _ (young : first_with_classes ≤ world.version) where
+  module _ (young : class_version ≤ world.version) where
     -- sends
     sent_imported : (name file : List ℕ) → IsName name → (earlier : Option Import) → import_of world (sent_given name file) ≡ earlier
         → LeadsOn world (imported_after world (sent_given name file) earlier)
@@ -174,7 +174,7 @@ module _ (world : World) (sound : IsSound world) where
   -- ---- any request
 
   -- what is done now, of a version with classes
-  done_sound : first_with_classes ≤ world.version → (request : Request) → HasValues request → LeadsOn world (done_now world request)
+  done_sound : class_version ≤ world.version → (request : Request) → HasValues request → LeadsOn world (done_now world request)
   done_sound young (AskBatch name template file) values = batch_imported name template file values (import_of world (batch_given name template file)) refl
   done_sound young (AskSent name file) values = sent_imported young name file values (import_of world (sent_given name file)) refl
   done_sound young (AskReported name file) values = reported_imported young name file values (import_of world (reported_given name file)) refl

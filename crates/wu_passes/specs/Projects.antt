@@ -1,6 +1,6 @@
 -- A project as its callers know it: what its connection shows, whether its session has ended, and which older version
 -- it is over.
-use Rattle.std.specs.Prelude.{◌≡◌, ◌⊎◌, ◌≤◌, ℕ, Bool, true, false, if◌then◌else◌, List, IfErr, IfSome, IsErrAnd, IsSome, IsTrue, MatchResult, None, OnOk, Option, Result, Err}
+use Rattle.std.specs.Prelude.{◌≡◌, ◌⊎◌, ◌≤◌, ℕ, Bool, true, false, if◌then◌else◌, List, IfErr, IfSome, IsErrAnd, IsSome, IsTrue, MatchResult, None, OnOk, Option, Result, Err, Vec, ⊤}
 use Rattle.sqlite.specs.Held.{Held, state}
 use Rattle.sqlite.specs.State.{State, HasCleanDisk}
 use Rattle.sqlite.specs.Store.{Ghosts}
@@ -21,9 +21,11 @@ use Rattle.wu_machine.specs.Sound.{IsProject}
 use Rattle.wu_store.specs.Loading.{Asks, ServesUnlessFailed}
 use Rattle.wu_store.specs.Classes.{ForEachClassed, NotRefusedClass}
 use Rattle.wu_views.specs.Lines.{summary_of}
-use Rattle.wu_store.specs.StandsFor.{StandsFor}
+use Rattle.wu_store.specs.StandsFor.{ForEachQueued, NotRefusedQueued, StandsFor}
 use Rattle.wu_views.specs.Summaries.{CountsSummary, FindsAt, IsCountable, SumsSummary}
+use Rattle.wu_views.specs.Waiting.{FindsDueLines}
 use Rattle.wu_views.specs.declared.lines.Summary.{Summary}
+use Rattle.wu_views.specs.declared.waiting.DueLine.{DueLine}
 use Rattle.wu_machine.specs.Requests.{Request}
 use Rattle.wu_passes.specs.Adopting.{KeepsAll, older_than_present}
 use Rattle.wu_passes.specs.Leaving.{RunsFrom}
@@ -281,3 +283,11 @@ pub record CountsRows {S : Type 0} {g : Ghosts S} (old new : Project S g) (resul
 -- Over a represented world whose numbers can be read, the summary is not refused.
 abbrev pub SummarizesUnrefused : {S T : Type 0} {g : Ghosts S} → Project S g → Project S g → Result T Fault → Type 0
 SummarizesUnrefused {S} {T} {g} old new result = NotRefusedClass g (connection_of old) (connection_of new) result IsCountable
+
+-- The lines are those of each world with classes that the tables and the queue represent.
+abbrev pub CountsDue : {S A : Type 0} {g : Ghosts S} → Project S g → Project S g → ℕ → Result (Vec DueLine A) Fault → Type 0
+CountsDue {S} {A} {g} old new now result = ForEachQueued g (connection_of old) (connection_of new) (FindsDueLines now result)
+
+-- Over such a world, the lines are not refused.
+abbrev pub CountsDueUnrefused : {S T : Type 0} {g : Ghosts S} → Project S g → Project S g → Result T Fault → Type 0
+CountsDueUnrefused {S} {T} {g} old new result = NotRefusedQueued g (connection_of old) (connection_of new) result (λ _. ⊤)

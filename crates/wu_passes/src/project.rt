@@ -4,14 +4,15 @@ ghost use Rattle.std.specs.Prelude.{◌≡◌, false};
 
 mod session;
 mod summary;
+mod waiting;
 mod walk;
 
 use sqlite::{Alter, Connection};
 
 /// A session over the database of a project, from its adoption to its release.
 ///
-/// Over an older version than the present one only an upgrade is done: each other command, each walk and the summary
-/// answer `OldSchema`. It stays over that version until an upgrade is done, whatever fault comes between.
+/// Over an older version than the present one only an upgrade is done: each other command, each walk, the summary and
+/// what waits answer `OldSchema`. It stays over that version until an upgrade is done, whatever fault comes between.
 ///
 /// It ends at `Broken` (the disk failed, or something is too big for the store), and at out of memory within a
 /// transaction. From then on each call answers `Ended` and changes nothing: what the database holds is known only once

@@ -8,11 +8,6 @@ use Rattle.std.proofs.lemmas.List.Folds.{find-append}
 use Rattle.std.specs.List.{enumerate_from, list_any}
 use Rattle.std.specs.Prelude.{◌||◌, ◌&&◌, ◌==◌, All, IfErr, IfOk, IfSome, IsErrAnd, bytes_eq, find, MatchResult}
 use Rattle.std.proofs.lemmas.List.Elements.{All-head, All-tail}
-use Rattle.sqlite.specs.Effect.{Database}
-use Rattle.sqlite.specs.Held.{Held, state}
-use Rattle.sqlite.specs.State.{HasCleanDisk}
-use Rattle.sqlite.specs.Store.{Ghosts}
-use Rattle.wu_schema.proofs.AskingLemmas.{asks_now}
 use Rattle.wu_core.specs.Codes.{import_kind_code}
 use Rattle.wu_core.specs.declared.import.ImportKind.TheVariants as kind
 use Rattle.wu_core.specs.declared.fault.Fault.{Fault}
@@ -27,8 +22,7 @@ use Rattle.wu_feed.specs.declared.jobs.Job.{Job}
 use Rattle.wu_machine.specs.Batches.{first_taken, is_one_of, job_names, taken_names}
 use Rattle.wu_machine.specs.Sound.{HasVerdicts}
 pub use Rattle.wu_store.proofs.AskLemmas.{asks_done, asks_fault, asks_handed, asks_made, asks_none, asks_stands, asks_then, handed_on}
-use Rattle.wu_store.specs.Loading.{Asks, IsStoreFault, LoadsImport}
-use Rattle.wu_store.specs.StandsFor.{StandsFor}
+use Rattle.wu_store.specs.Loading.{IsStoreFault, LoadsImport}
 
 any_or : (a b c d : Bool) → a ≡ c → b ≡ d → (a || b) ≡ (c || d)
 any_or a b c d first second = rw (first, second) refl
@@ -151,10 +145,6 @@ all_free world jobs i past free =
     ap (λ names. find (is_used_at world jobs) (enumerate_from 0 names)) (sym (take_all _ _ long)) ∙ free
 
 -- ---- from question to question
-
--- after an answer the tables stand for what they stood for
-pub asks_over : {S T : Type 0} (g : Ghosts S) (old new : Held S) (x : T) → Asks g old new (Ok x) → HasCleanDisk (state g new) → (world : World) → StandsFor (state g old).now world → StandsFor (state g new).now world
-asks_over g old new x it clean world stands = subst (λ (d : Database). StandsFor d world) (sym (asks_now g old new x it clean)) stands
 
 -- an answer that is this, or a fault of the store
 pub told_or : {T : Type 0} (r : Result T Fault) (P : T → Type 0) → IfOk r P → IfErr r IsStoreFault → MatchResult r P IsStoreFault

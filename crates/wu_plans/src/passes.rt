@@ -17,13 +17,10 @@ use crate::plan::Plan;
 use crate::sums::sums_of;
 use sqlite::{Alter, Connection};
 use std::alloc::Global;
-use wu_core::{Archived, Fault, Grant, LONGEST_AGE, Moment, Workunit};
+use wu_core::{Archived, Fault, Grant, HIGHEST_LIMIT, LONGEST_AGE, Moment, Workunit};
 use wu_machine::Answer;
 use wu_rules::{Pass, assimilate, delete_files, transition, validate};
 use wu_store::{Change, due_numbers, load_due, next_archived_place, next_grant_place};
-
-/// The most workunits that one pass may be asked to change.
-const HIGHEST_LIMIT: u64 = 1000;
 
 /// What a pass is asked to do: at which moment, up to how many workunits, and of which least age those of a purge.
 #[derive(Clone, Copy)]

@@ -6,9 +6,8 @@ ghost use Rattle.wu_store.specs.Loading.{Asks, NotRefusedIn, ForEachWorld, Stays
 use crate::plan::Plan;
 use sqlite::{Alter, Connection};
 use std::alloc::Global;
-use wu_core::Fault;
+use wu_core::{Fault, PRESENT_VERSION};
 use wu_machine::Answer;
-use wu_schema::PRESENT_VERSION;
 use wu_store::{Change, load_marks};
 
 /// Returns what an upgrade of tables of this version answers and changes. It answers that version and the present one.

@@ -20,6 +20,7 @@ database_in (order.Script script) = script.db
 database_in (order.Session path) = path
 database_in (order.Check path) = path
 database_in (order.Export it) = it.db
+database_in (order.Lint it) = []
 database_in (order.Explain topic) = []
 
 -- What a line or a script asks for; a check and an explanation ask for no work.

@@ -14,17 +14,19 @@ use Rattle.sqlite.specs.declared.file.Leftover.{Leftover}
 use Rattle.wu_schema.specs.Faults.{fault_of}
 use Rattle.wu_arguments.specs.Refusals.{IsOrderOf}
 use Rattle.wu_arguments.specs.declared.order.ExportOrder.{ExportOrder}
+use Rattle.wu_arguments.specs.declared.order.LintOrder.{LintOrder}
 use Rattle.wu_arguments.specs.declared.order.Order.{Order}
 use Rattle.wu_arguments.specs.declared.order.Order.TheVariants as order
 use Rattle.wu_arguments.specs.declared.order.Topic.{Topic}
 use Rattle.wu_cli.specs.Endings.{WritesAll}
 use Rattle.wu_cli.specs.Explaining.{ExplainsTopic}
+use Rattle.wu_cli.specs.Linting.{Lints}
 use Rattle.wu_cli.specs.Printing.{PrintsOver}
 use Rattle.wu_cli.specs.Troubles.{trouble_of_opening, trouble_status, trouble_text}
 use Rattle.wu_cli.specs.Working.{DoesOver, DrivesOver}
 use Rattle.wu_cli.specs.declared.trouble.Trouble.{Trouble}
 use Rattle.wu_cli.specs.declared.work.Work.{Work}
-use Rattle.wu_process.specs.Asking.{AsksFor, database_in, RefusesWords}
+use Rattle.wu_process.specs.Asking.{AsksFor, database_in, may_hold, RefusesWords}
 use Rattle.wu_process.specs.Backups.{may_become}
 use Rattle.wu_process.specs.Checks.{ChecksPath}
 use Rattle.wu_process.specs.Closing.{IsLeftByClose}
@@ -74,12 +76,13 @@ pub record RunsNothing {W : Type 0} (words : List (List ℕ)) (old new : W) (don
   pub unwritten : new ≡ old
 
 module _ {W : Type 0} (contents : W → Option (List ℕ)) where
-  -- The words ask for a check, for what is made of a copy, or for an explanation.
+  -- The words ask for a check, for what is made of a copy, for an explanation, or for a reading of a file.
   abbrev pub RunsAside : List (List ℕ) → W → W → Result (Unit {0}) Trouble → Type 0
   RunsAside words old new done =
       ((path : List ℕ) × IsOrderOf words (order.Check path) × ChecksPath contents path old new done)
       ⊎ (((it : ExportOrder) × IsOrderOf words (order.Export it) × Exports may_become may_become contents it.db it.export old new done)
-      ⊎ ((topic : Topic) × IsOrderOf words (order.Explain topic) × ExplainsTopic contents old new done))
+      ⊎ (((topic : Topic) × IsOrderOf words (order.Explain topic) × ExplainsTopic contents old new done)
+      ⊎ ((it : LintOrder) × IsOrderOf words (order.Lint it) × Lints may_hold contents it old new done)))
 
 module _ {S W : Type 0} {c : calls.Ghosts Host} {s : start.Ghosts S} {g : Ghosts (Modelled Host S c s)} (contents : W → Option (List ℕ)) where
   -- The database of this path is opened, over two files that held what the start says, and the work is done over it.
@@ -113,8 +116,8 @@ module _ {S W : Type 0} {c : calls.Ghosts Host} {s : start.Ghosts S} {g : Ghosts
     pub asked : AsksFor words order work
     pub runs : OpensAndDoes (database_in order) work old new done left
 
-  -- A run leaves a database only if its words ask for work. Otherwise it is refused, a check, an export, or an
-  -- explanation.
+  -- A run leaves a database only if its words ask for work. Otherwise it is refused, a check, an export, an explanation,
+  -- or a reading of a file.
   abbrev pub RunsWords : List (List ℕ) → W → W → Result (Unit {0}) Trouble → Option (LeftDatabase (Modelled Host S c s) g) → Type 0
   RunsWords words old new done (Some left) = RunsAsked words old new done left
   RunsWords words old new done None = RunsNothing words old new done ⊎ RunsAside contents words old new done

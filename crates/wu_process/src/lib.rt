@@ -37,7 +37,7 @@ use std::alloc::Global;
 use std::env;
 use std::io::{self, BufRead, BufWriter, Input, IsTerminal, Stderr, Stdout, Write};
 use wu_arguments::{Order, read_words};
-use wu_cli::{Trouble, Work, explain, unheard};
+use wu_cli::{Trouble, Work, explain, lint, unheard};
 use wu_core::Fault;
 use wu_drive::demo;
 
@@ -72,8 +72,8 @@ fn run_words<S: sqlite::Start, R: BufRead, O: Write, E: Write>(
     err: &mut E,
 ) -> Ran<FileFrom<S>>
     // Refused words, and a line or a script that cannot be run, are reported, and nothing goes out.
-    // Otherwise the work is done over the database that the words name, or the check, the export or
-    // the explanation, or a session is held.
+    // Otherwise the work is done over the database that the words name, or the check, the export,
+    // the reading or the explanation, or a session is held.
     ensures { RanFor O.contents (map string_bytes words.now) out.old out.new err.old err.new
         (R.remaining input.old) (R.remaining input.new) result }
 {
@@ -96,6 +96,7 @@ fn run_words<S: sqlite::Start, R: BufRead, O: Write, E: Write>(
         }
         Ok(Order::Check(path)) => Ran::Done(check_path(rt, path.as_str(), out), None),
         Ok(Order::Export(asked)) => Ran::Done(export(rt, &asked, &files, out), None),
+        Ok(Order::Lint(asked)) => Ran::Done(lint(alloc, &asked, &files, out), None),
         Ok(Order::Explain(topic)) => Ran::Done(explain(&topic, out), None),
         Err(usage) => Ran::Done(Err(Trouble::Usage(usage)), None),
     }

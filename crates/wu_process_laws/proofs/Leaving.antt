@@ -115,6 +115,7 @@ usage_told : (u : Usage) → usage_status u ≡ 0 → ⊥
 usage_told (usage.Refused word) none = absurd (omega (arith, none))
 usage_told usage.UnknownView none = absurd (omega (arith, none))
 usage_told usage.UnknownTopic none = absurd (omega (arith, none))
+usage_told usage.UnknownKind none = absurd (omega (arith, none))
 usage_told usage.LongLine none = absurd (omega (arith, none))
 usage_told usage.NotText none = absurd (omega (arith, none))
 usage_told usage.Incomplete none = absurd (omega (arith, none))

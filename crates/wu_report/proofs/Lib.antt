@@ -7,3 +7,4 @@ mod MomentLemmas
 mod ViewLemmas
 pub mod WritingLemmas
 mod WalkedLemmas
+mod StatusLemmas

@@ -3,7 +3,7 @@ use Rattle.std.proofs.Common.{◌≡◌, ℕ, ◌+◌, ◌/◌, ◌%◌, ◌==�
 use Rattle.std.proofs.lemmas.Bool.{and_from}
 use Rattle.std.proofs.lemmas.List.Elements.{All-append, All-cons, All-from_recursion, All-head, All-map, All-nil, All-tail, recursion_from_All}
 use Rattle.std.specs.List.{enumerate_from, flat_map, list_all}
-use Rattle.std.specs.Prelude.{codes}
+use Rattle.std.specs.Prelude.{codes, ⊤}
 use Rattle.hex.specs.Hex.{encode_lower, encode_with, lower_digits}
 use Rattle.wu_core.specs.declared.import.ImportKind.{ImportKind}
 use Rattle.wu_core.specs.declared.import.ImportKind.TheVariants as kind
@@ -30,13 +30,17 @@ use Rattle.wu_views.specs.declared.lines.ImportLine.{ImportLine}
 use Rattle.wu_views.specs.declared.lines.ResultLine.{ResultLine}
 use Rattle.wu_views.specs.declared.lines.Summary.{Summary}
 use Rattle.wu_views.specs.declared.lines.WorkunitLine.{WorkunitLine}
+use Rattle.wu_views.specs.declared.waiting.DueLine.{DueLine}
+use Rattle.wu_views.specs.Waiting.{due_lines}
+use Rattle.wu_rules.specs.declared.due.Pass.{Pass}
+use Rattle.wu_rules.specs.declared.due.Pass.TheVariants as pass
 use Rattle.wu_views.specs.Imports.{imports_in_order}
 use Rattle.wu_views.proofs.ImportLemmas.{each_in_order}
 use Rattle.wu_views.specs.Lines.{archived_lines, class_lines, host_line_of, host_lines, import_line_of, import_lines, line_of, result_line_of, result_lines, result_lines_of, summary_of, workunit_lines}
 use Rattle.wu_machine.specs.declared.view.View.{View}
 use Rattle.wu_machine.specs.declared.view.View.TheVariants as view
 use Rattle.wu_report.specs.Marks.{HasValidNames}
-use Rattle.wu_report.specs.Texts.{archived_line, bytes_text, class_line, counted, host_line, import_line, moment_text, number_or_dash, or_dash, result_line, summary_lines, view_text, workunit_line}
+use Rattle.wu_report.specs.Texts.{archived_line, bytes_text, class_line, counted, due_line, host_line, import_line, moment_text, number_or_dash, or_dash, pass_word, result_line, summary_lines, view_text, workunit_line}
 use Rattle.wu_report.specs.Views.{CanBeShown}
 use Rattle.wu_report.proofs.MarkLemmas.{begun, both_true, begun_decimal, begun_name, digit_inside, IsFront, is_front, IsInside, is_inside, is_unmarked, IsWhole, past, past_decimal, past_name, read_inside, whole_append, whole_flat_map}
 
@@ -80,6 +84,13 @@ begun_kind kind.Batch rest = refl
 begun_kind kind.Sent rest = refl
 begun_kind kind.Reported rest = refl
 begun_kind kind.Classes rest = refl
+
+pub begun_pass : (pass : Pass) (rest : List ℕ) → is_unmarked true (pass_word pass ++ rest) ≡ is_unmarked false rest
+begun_pass pass.Transition rest = refl
+begun_pass pass.Validate rest = refl
+begun_pass pass.Assimilate rest = refl
+begun_pass pass.Delete rest = refl
+begun_pass pass.Purge rest = refl
 
 past_server_state : (state : ServerState) (rest : List ℕ) → is_unmarked false (server_state_word state ++ rest) ≡ is_unmarked false rest
 past_server_state server.Inactive rest = refl
@@ -139,6 +150,9 @@ class_whole it named rest = simp (append_assoc, begun_name it.host named, past_d
 import_whole : (it : ImportLine) → IsName it.name → IsWhole (import_line it)
 import_whole it named rest = simp (append_assoc, begun_kind, past_name it.name named, past_decimal, past_number)
 
+due_whole : (it : DueLine) → IsWhole (due_line it)
+due_whole it rest = simp (append_assoc, begun_pass, past_decimal)
+
 counted_whole : (word : List ℕ) → IsFront word → IsInside word → (n : ℕ) → IsWhole (counted word n)
 counted_whole word front inside n rest = simp (append_assoc, begun word front inside, past_decimal)
 
@@ -183,6 +197,7 @@ view_whole world view.Hosts named = whole_flat_map (λ (host : HostLine). IsName
 view_whole world view.Archive named = whole_flat_map (λ (row : Archived). IsName row.name) archived_line archived_whole (archived_lines world) named
 view_whole world view.Summary named = summary_whole (summary_of world)
 view_whole world view.Imports named = whole_flat_map (λ (it : ImportLine). IsName it.name) import_line import_whole (import_lines world) named
+view_whole world (view.Status now) named = whole_flat_map (λ (it : DueLine). ⊤) due_line (λ it is. due_whole it) (due_lines now world) (λ k d within. tt)
 view_whole world view.Classes named = whole_flat_map (λ (it : HostClass). IsName it.host) class_line class_whole (class_lines world) named
 
 -- ---- names of what can be read
@@ -215,6 +230,7 @@ names_valid world view.Results shown = results_named world.workunits shown
 names_valid world view.Hosts shown = All-map (λ (host : HostLine). IsName host.name) (host_line_of world.grants) (hosts_of world.grants) shown
 names_valid world view.Archive shown = λ k d within. (shown k d within).name
 names_valid world view.Summary shown = tt
+names_valid world (view.Status now) shown = tt
 names_valid world view.Classes shown = λ k d within. (shown k d within).host
 names_valid world view.Imports shown =
     All-map (λ (it : ImportLine). IsName it.name) import_line_of (imports_in_order world.imports)

@@ -6,3 +6,4 @@ pub mod Views
 pub mod Marks
 pub mod Examples
 pub mod Seeing
+pub mod Statuses

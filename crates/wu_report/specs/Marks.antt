@@ -32,6 +32,7 @@ HasValidNames world view.Archive = All (λ (row : Archived). IsName row.name) (a
 HasValidNames world view.Summary = ⊤
 HasValidNames world view.Classes = All (λ (it : HostClass). IsName it.host) (class_lines world)
 HasValidNames world view.Imports = All (λ (line : ImportLine). IsName line.name) (import_lines world)
+HasValidNames world (view.Status now) = ⊤
 
 -- If the names in a view are valid, no line of its text begins with '='.
 abbrev pub NoViewLineIsMarked : Type 0

@@ -14,6 +14,10 @@ use Rattle.wu_views.specs.declared.lines.ImportLine.{ImportLine}
 use Rattle.wu_views.specs.declared.lines.ResultLine.{ResultLine}
 use Rattle.wu_views.specs.declared.lines.Summary.{Summary}
 use Rattle.wu_views.specs.declared.lines.WorkunitLine.{WorkunitLine}
+use Rattle.wu_views.specs.declared.waiting.DueLine.{DueLine}
+use Rattle.wu_views.specs.Waiting.{due_lines}
+use Rattle.wu_rules.specs.declared.due.Pass.{Pass}
+use Rattle.wu_rules.specs.declared.due.Pass.TheVariants.{Transition, Validate, Assimilate, Delete, Purge}
 use Rattle.wu_views.specs.Lines.{archived_lines, class_lines, host_lines, import_lines, result_lines, summary_of, workunit_lines}
 use Rattle.wu_machine.specs.declared.view.View.{View}
 use Rattle.wu_machine.specs.declared.view.View.TheVariants as view
@@ -124,6 +128,18 @@ import_line it =
 abbrev pub counted : List ℕ → ℕ → List ℕ
 counted word n = word ++ codes " " ++ decimal n ++ line_end
 
+-- The word of a pass, in its answer and in the view of what waits.
+abbrev pub pass_word : Pass → List ℕ
+pass_word Transition = codes "transition"
+pass_word Validate = codes "validate"
+pass_word Assimilate = codes "assimilate"
+pass_word Delete = codes "delete"
+pass_word Purge = codes "purge"
+
+-- The line of a pass: how many workunits wait for it.
+abbrev pub due_line : DueLine → List ℕ
+due_line it = counted (pass_word it.pass) it.count
+
 -- The twelve lines of a summary.
 abbrev pub summary_lines : Summary → List ℕ
 summary_lines s =
@@ -149,3 +165,4 @@ view_text world view.Archive = flat_map archived_line (archived_lines world)
 view_text world view.Summary = summary_lines (summary_of world)
 view_text world view.Classes = flat_map class_line (class_lines world)
 view_text world view.Imports = flat_map import_line (import_lines world)
+view_text world (view.Status now) = flat_map due_line (due_lines now world)

@@ -1,5 +1,5 @@
 -- What a view shows of a project.
-use Rattle.std.specs.Prelude.{◌≡◌, ◌≢◌, ◌⊎◌, ℕ, List, Option, Result, Err, IfErr, IfSome, OnOk}
+use Rattle.std.specs.Prelude.{◌≡◌, ◌≢◌, ◌⊎◌, ℕ, List, Option, Result, Err, IfErr, IfSome, OnOk, ⊤}
 use Rattle.std.specs.Io.KnownBytes.{Appends}
 use Rattle.sqlite.specs.State.{HasCleanDisk}
 use Rattle.sqlite_trees.specs.declared.store.Store.{Ghosts}
@@ -58,6 +58,7 @@ CanBeShown world view.Archive = IsArchiveStorable world
 CanBeShown world view.Summary = IsCountable world
 CanBeShown world view.Classes = AreClassed world.classes
 CanBeShown world view.Imports = AreImportsStorable world
+CanBeShown world (view.Status now) = ⊤
 
 -- On a clean disk and without a limit on steps, no read is refused over such a world.
 abbrev pub UnrefusedWhere : {S T : Type 0} {store : Ghosts S} → (World → Type 0) → Project S store → Project S store → Result T Fault → Type 0

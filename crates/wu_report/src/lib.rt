@@ -7,7 +7,7 @@ mod lines;
 mod output;
 mod views;
 
-pub use lines::{applied_count, number_or_dash};
+pub use lines::{applied_count, number_or_dash, pass_word};
 pub use output::{Piece, flush, write_pieces};
 pub use views::show;
 pub use wu_machine::View;

@@ -2,34 +2,16 @@
 
 ghost use Rattle.std.specs.Prelude.{◌≡◌, IsOkUnless};
 ghost use Rattle.wu_core.specs.declared.fault.Fault.TheVariants.{Output};
-ghost use Rattle.wu_report.specs.Texts.{applied_count, bytes_text, number_or_dash, or_dash, summary_lines};
+ghost use Rattle.wu_report.specs.Texts.{applied_count, bytes_text, number_or_dash, or_dash, pass_word, summary_lines};
 ghost use Rattle.wu_report.specs.Writing.{CutsWhatFails, piece_text, WritesTo};
 
-use crate::output::{Piece, write_pieces};
+use crate::output::{Piece, Printed, write_pieces};
 use std::io::Write;
 use wu_core::{Archived, Bytes, Fault, HostClass, Name};
-use wu_views::{HostLine, ImportLine, ResultLine, Summary, WorkunitLine};
+use wu_rules::Pass;
+use wu_views::{DueLine, HostLine, ImportLine, ResultLine, Summary, WorkunitLine};
 
-/// What a view shows on a line of its own.
-pub trait ViewLine: Drop {
-    ghost use Rattle.std.specs.Prelude.{ℕ, List, IsOkUnless};
-    ghost use Rattle.wu_core.specs.declared.fault.Fault.TheVariants.{Output};
-    ghost use Rattle.wu_report.specs.Writing.{CutsWhatFails, WritesTo};
-
-    /// The line, with its end.
-    ghost text: { Self → List ℕ };
-
-    /// Writes the line. The only fault is `Output`, where some bytes of it did not go out.
-    fn write<W: Write>(&self, out: &mut W) -> Result<(), Fault>
-        // With Ok exactly the line is written, and else a prefix of it.
-        ensures bytes { WritesTo W.contents out.old out.new (text self.now) result }
-        // What is reported as failed was cut: a line that went out whole never is.
-        ensures cut { CutsWhatFails W.contents out.old out.new (text self.now) result }
-        // The only fault is `Output`.
-        ensures fault { IsOkUnless result Output };
-}
-
-impl ViewLine for WorkunitLine {
+impl Printed for WorkunitLine {
     ghost use Rattle.wu_report.specs.Texts.{workunit_line};
 
     ghost text = { workunit_line };
@@ -86,7 +68,7 @@ fn name_or_dash(name: &Option<Name>) -> Piece<'_>
     }
 }
 
-impl ViewLine for ResultLine {
+impl Printed for ResultLine {
     ghost use Rattle.wu_report.specs.Texts.{result_line};
 
     ghost text = { result_line };
@@ -122,7 +104,7 @@ impl ViewLine for ResultLine {
     }
 }
 
-impl ViewLine for HostLine {
+impl Printed for HostLine {
     ghost use Rattle.wu_report.specs.Texts.{host_line};
 
     ghost text = { host_line };
@@ -153,7 +135,7 @@ fn hex_or_dash(bytes: &Bytes) -> Piece<'_>
     }
 }
 
-impl ViewLine for Archived {
+impl Printed for Archived {
     ghost use Rattle.wu_report.specs.Texts.{archived_line};
 
     ghost text = { archived_line };
@@ -179,7 +161,7 @@ impl ViewLine for Archived {
     }
 }
 
-impl ViewLine for HostClass {
+impl Printed for HostClass {
     ghost use Rattle.wu_report.specs.Texts.{class_line};
 
     ghost text = { class_line };
@@ -217,7 +199,7 @@ pub fn number_or_dash(number: u64) -> Piece<'static>
     }
 }
 
-impl ViewLine for ImportLine {
+impl Printed for ImportLine {
     ghost use Rattle.wu_report.specs.Texts.{import_line};
 
     ghost text = { import_line };
@@ -239,6 +221,38 @@ impl ViewLine for ImportLine {
                 Piece::Number((verdicts.len() - applied) as u64),
                 Piece::Text(" first="),
                 number_or_dash(self.first_number),
+                Piece::Text("\n"),
+            ],
+        )
+    }
+}
+
+/// Returns the word of a pass, in its answer and in the view of what waits.
+pub fn pass_word(pass: Pass) -> &'static str
+    // The word is that of the pass.
+    ensures { result.now ≡ pass_word pass }
+{
+    match pass {
+        Pass::Transition => "transition",
+        Pass::Validate => "validate",
+        Pass::Assimilate => "assimilate",
+        Pass::Delete => "delete",
+        Pass::Purge => "purge",
+    }
+}
+
+impl Printed for DueLine {
+    ghost use Rattle.wu_report.specs.Texts.{due_line};
+
+    ghost text = { due_line };
+
+    fn write<W: Write>(&self, out: &mut W) -> Result<(), Fault> {
+        write_pieces(
+            out,
+            &[
+                Piece::Text(pass_word(self.pass)),
+                Piece::Text(" "),
+                Piece::Number(self.count),
                 Piece::Text("\n"),
             ],
         )

@@ -16,6 +16,25 @@ use jiff::fmt::temporal::DateTimePrinter;
 use std::io::Write;
 use wu_core::{Deadline, Fault, Moment};
 
+/// What is printed: its text, and how it is written.
+pub trait Printed {
+    ghost use Rattle.std.specs.Prelude.{ℕ, List, IsOkUnless};
+    ghost use Rattle.wu_core.specs.declared.fault.Fault.TheVariants.{Output};
+    ghost use Rattle.wu_report.specs.Writing.{CutsWhatFails, WritesTo};
+
+    /// The text, with the ends of its lines.
+    ghost text: { Self → List ℕ };
+
+    /// Writes the text. The only fault is `Output`, where some bytes of it did not go out.
+    fn write<W: Write>(&self, out: &mut W) -> Result<(), Fault>
+        // With Ok exactly the text is written, and else a prefix of it.
+        ensures bytes { WritesTo W.contents out.old out.new (text self.now) result }
+        // What is reported as failed was cut: a text that went out whole never is.
+        ensures cut { CutsWhatFails W.contents out.old out.new (text self.now) result }
+        // The only fault is `Output`.
+        ensures fault { IsOkUnless result Output };
+}
+
 /// A piece of a line.
 #[derive(Drop)]
 pub enum Piece<'a> {
@@ -100,21 +119,37 @@ fn write_hex<W: Write>(out: &mut W, bytes: &[u8]) -> Result<(), Fault>
     Ok(())
 }
 
-/// Writes a piece of a line.
-fn write_piece<W: Write>(out: &mut W, piece: &Piece<'_>) -> Result<(), Fault>
-    ensures bytes { WritesTo W.contents out.old out.new (piece_text piece.now) result }
-    ensures cut { CutsWhatFails W.contents out.old out.new (piece_text piece.now) result }
+impl Printed for Piece<'_> {
+    ghost text = { piece_text };
+
+    fn write<W: Write>(&self, out: &mut W) -> Result<(), Fault> {
+        match self {
+            Piece::Text(text) => write_bytes(out, text.as_bytes()),
+            Piece::Number(number) => write_number(out, *number),
+            Piece::Place(Some(place)) => write_number(out, u64::from(*place)),
+            Piece::When(Some(moment)) => write_seconds(out, moment.seconds()),
+            Piece::Due(Some(deadline)) => write_seconds(out, deadline.seconds()),
+            Piece::Hex(bytes) => write_hex(out, bytes),
+            Piece::Place(None) | Piece::When(None) | Piece::Due(None) => write_bytes(out, b"-"),
+        }
+    }
+}
+
+/// Writes the texts of these in turn, without taking memory.
+pub fn write_all<T: Printed, W: Write>(out: &mut W, all: &[T]) -> Result<(), Fault>
+    // With Ok exactly the texts are written, one after another, and else a prefix of them.
+    ensures bytes { WritesTo W.contents out.old out.new
+        (flat_map T.Printed.text all.now) result }
+    // What is reported as failed was cut: a text that went out whole never is.
+    ensures cut { CutsWhatFails W.contents out.old out.new
+        (flat_map T.Printed.text all.now) result }
+    // The only fault is `Output`.
     ensures fault { IsOkUnless result Output }
 {
-    match piece {
-        Piece::Text(text) => write_bytes(out, text.as_bytes()),
-        Piece::Number(number) => write_number(out, *number),
-        Piece::Place(Some(place)) => write_number(out, u64::from(*place)),
-        Piece::When(Some(moment)) => write_seconds(out, moment.seconds()),
-        Piece::Due(Some(deadline)) => write_seconds(out, deadline.seconds()),
-        Piece::Hex(bytes) => write_hex(out, bytes),
-        Piece::Place(None) | Piece::When(None) | Piece::Due(None) => write_bytes(out, b"-"),
+    for one in all {
+        one.write(out)?;
     }
+    Ok(())
 }
 
 /// Writes the pieces in turn, without taking memory.
@@ -127,10 +162,7 @@ pub fn write_pieces<W: Write>(out: &mut W, pieces: &[Piece<'_>]) -> Result<(), F
     // The only fault is `Output`.
     ensures fault { IsOkUnless result Output }
 {
-    for piece in pieces {
-        write_piece(out, piece)?;
-    }
-    Ok(())
+    write_all(out, pieces)
 }
 
 /// Flushes the writer.

@@ -5,12 +5,12 @@ ghost use Rattle.wu_report.specs.Seeing.{Sees};
 ghost use Rattle.wu_report.specs.Texts.{view_text};
 ghost use Rattle.wu_report.specs.Views.{CanBeShown, CountsShown, WritesView};
 
-use crate::lines::{ViewLine, write_summary};
-use crate::output::flush;
+use crate::lines::write_summary;
+use crate::output::{Printed, flush, write_all};
 use sqlite::Alter;
 use std::alloc::Global;
 use std::io::Write;
-use wu_core::Fault;
+use wu_core::{Fault, Moment};
 use wu_machine::View;
 use wu_passes::{Project, Takes};
 use wu_views::{
@@ -24,14 +24,14 @@ struct LineWriter<'a, W: Write> {
     out: &'a mut W,
 }
 
-impl<T: ViewLine, W: Write> Takes<T> for LineWriter<'_, W> {
+impl<T: Printed, W: Write> Takes<T> for LineWriter<'_, W> {
     ghost use Rattle.wu_report.specs.Writers.{CutsLine, WritesLine};
 
     // A line that it takes went out whole.
-    ghost takes = { λ old new line. WritesLine W.Write.contents old new (T.ViewLine.text line) };
+    ghost takes = { λ old new line. WritesLine W.Write.contents old new (T.Printed.text line) };
 
     // A line that it refuses was cut: some of its bytes did not go out.
-    ghost refuses = { λ old new line. CutsLine W.Write.contents old new (T.ViewLine.text line) };
+    ghost refuses = { λ old new line. CutsLine W.Write.contents old new (T.Printed.text line) };
 
     fn take(&mut self, line: &T) -> Result<(), Fault> {
         line.write(self.out)
@@ -45,12 +45,12 @@ fn write_listing<S: Alter, L: Listing, W: Write>(
     out: &mut W,
 ) -> Result<(), Fault>
 where
-    L::Item: ViewLine,
+    L::Item: Printed,
     // Over a world with classes its lines are written, in order: all, or a prefix with a fault, and
     // with `Output` not all of them. The project is only read. Where the values can be read, and
     // steps have no limit, the fault is never `NotAProject`.
     ensures { WritesView W.Write.contents project.old project.new out.old out.new
-        (λ world. flat_map L.Item.ViewLine.text (L.Listing.lines world))
+        (λ world. flat_map L.Item.Printed.text (L.Listing.lines world))
         L.Listing.is_readable result }
 {
     let mut writer = LineWriter { out };
@@ -69,6 +69,23 @@ fn write_counts<S: Alter, W: Write>(project: &mut Project<S>, out: &mut W) -> Re
 {
     let summary = project.summary()?;
     write_summary(out, &summary)
+}
+
+/// Writes a line for each pass, with the number of workunits that wait for it. Only `Broken` ends the session.
+fn write_due<S: Alter, W: Write>(
+    alloc: Global,
+    project: &mut Project<S>,
+    now: Moment,
+    out: &mut W,
+) -> Result<(), Fault>
+    // Of a world with classes the lines of its passes are written: all, or a prefix with a fault,
+    // and with `Output` not all.
+    ensures { WritesView W.Write.contents project.old project.new out.old out.new
+        (λ world. view_text world (View.Status now))
+        (λ world. CanBeShown world (View.Status now)) result }
+{
+    let lines = project.due_lines(alloc, now)?;
+    write_all(out, lines.as_slice())
 }
 
 /// Writes the lines of a view.
@@ -95,6 +112,7 @@ fn write_view<S: Alter, W: Write>(
         View::Summary => write_counts(project, out),
         View::Classes => write_listing::<S, ClassListing, W>(alloc, project, out),
         View::Imports => write_listing::<S, ImportListing, W>(alloc, project, out),
+        View::Status(now) => write_due(alloc, project, now, out),
     }
 }
 

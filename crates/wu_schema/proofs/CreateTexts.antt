@@ -9,36 +9,38 @@ use Rattle.wu_schema.proofs.Words.{List, Statement, [], archived_at, codes, ever
 use Rattle.wu_schema.proofs.CreateLemmas.{def_by, or_empty}
 use Rattle.wu_schema.proofs.CreateEffect.{Defines}
 use Rattle.wu_schema.proofs.IndexEffect.{DefinesAs}
+use Rattle.wu_schema.specs.declared.classes.TheConstants.{CREATE_HOST_CLASS, CREATE_WORKUNIT_CLASS}
+use Rattle.wu_schema.specs.declared.texts.TheConstants.{CREATE_ARCHIVED, CREATE_CREDIT_GRANT, CREATE_HOST, CREATE_IMPORT, CREATE_PROJECT, CREATE_QUEUE, CREATE_QUEUE_ASSIMILATE, CREATE_QUEUE_DELETE, CREATE_QUEUE_PURGE, CREATE_QUEUE_VALIDATE, CREATE_QUEUE_WAKE, CREATE_RESULT, CREATE_WORKUNIT}
 
 abbrev pub project_text : List ℕ
-project_text = codes "CREATE TABLE project (\n  one INTEGER PRIMARY KEY CHECK (one = 1),\n  version INTEGER NOT NULL,\n  next_number INTEGER NOT NULL) STRICT"
+project_text = CREATE_PROJECT.now
 
 abbrev pub workunit_text : List ℕ
-workunit_text = codes "CREATE TABLE workunit (\n  number INTEGER PRIMARY KEY,\n  name TEXT NOT NULL UNIQUE,\n  min_quorum INTEGER NOT NULL,\n  target_nresults INTEGER NOT NULL,\n  max_error_results INTEGER NOT NULL,\n  max_total_results INTEGER NOT NULL,\n  max_success_results INTEGER NOT NULL,\n  delay_bound INTEGER NOT NULL,\n  credit INTEGER NOT NULL,\n  input BLOB NOT NULL,\n  error_mask INTEGER NOT NULL,\n  canonical INTEGER,\n  assimilate INTEGER NOT NULL,\n  file_delete INTEGER NOT NULL,\n  done_at INTEGER) STRICT"
+workunit_text = CREATE_WORKUNIT.now
 
 abbrev pub result_text : List ℕ
-result_text = codes "CREATE TABLE result (\n  workunit INTEGER NOT NULL REFERENCES workunit (number) ON DELETE CASCADE,\n  n INTEGER NOT NULL,\n  server_state INTEGER NOT NULL,\n  outcome INTEGER NOT NULL,\n  validate_state INTEGER NOT NULL,\n  file_delete INTEGER NOT NULL,\n  host TEXT,\n  sent_at INTEGER,\n  deadline INTEGER,\n  received_at INTEGER,\n  output BLOB NOT NULL,\n  PRIMARY KEY (workunit, n)) STRICT"
+result_text = CREATE_RESULT.now
 
 abbrev pub grant_text : List ℕ
-grant_text = codes "CREATE TABLE credit_grant (\n  seq INTEGER PRIMARY KEY,\n  workunit INTEGER NOT NULL,\n  n INTEGER NOT NULL,\n  host TEXT NOT NULL,\n  credit INTEGER NOT NULL,\n  UNIQUE (workunit, n)) STRICT"
+grant_text = CREATE_CREDIT_GRANT.now
 
 abbrev pub host_text : List ℕ
-host_text = codes "CREATE TABLE host (\n  name TEXT PRIMARY KEY NOT NULL,\n  total INTEGER NOT NULL,\n  grants INTEGER NOT NULL) STRICT"
+host_text = CREATE_HOST.now
 
 abbrev pub archived_text : List ℕ
-archived_text = codes "CREATE TABLE archived (\n  seq INTEGER PRIMARY KEY,\n  number INTEGER NOT NULL UNIQUE,\n  name TEXT NOT NULL UNIQUE,\n  error_mask INTEGER NOT NULL,\n  canonical INTEGER,\n  output BLOB NOT NULL,\n  done_at INTEGER NOT NULL) STRICT"
+archived_text = CREATE_ARCHIVED.now
 
 abbrev pub import_text : List ℕ
-import_text = codes "CREATE TABLE import (\n  kind INTEGER NOT NULL,\n  name TEXT NOT NULL,\n  template BLOB NOT NULL,\n  content BLOB NOT NULL,\n  first_number INTEGER NOT NULL,\n  verdicts TEXT NOT NULL,\n  PRIMARY KEY (kind, name)) STRICT"
+import_text = CREATE_IMPORT.now
 
 abbrev pub queue_text : List ℕ
-queue_text = codes "CREATE TABLE queue (\n  workunit INTEGER PRIMARY KEY REFERENCES workunit (number) ON DELETE CASCADE,\n  wake INTEGER,\n  to_validate INTEGER NOT NULL,\n  to_assimilate INTEGER NOT NULL,\n  to_delete INTEGER NOT NULL,\n  purge_from INTEGER) STRICT"
+queue_text = CREATE_QUEUE.now
 
 abbrev pub host_class_text : List ℕ
-host_class_text = codes "CREATE TABLE host_class (\n  host TEXT PRIMARY KEY NOT NULL,\n  class INTEGER NOT NULL) STRICT"
+host_class_text = CREATE_HOST_CLASS.now
 
 abbrev pub workunit_class_text : List ℕ
-workunit_class_text = codes "CREATE TABLE workunit_class (\n  workunit INTEGER PRIMARY KEY REFERENCES workunit (number) ON DELETE CASCADE,\n  class INTEGER NOT NULL) STRICT"
+workunit_class_text = CREATE_WORKUNIT_CLASS.now
 
 pub project_made : Defines project_text (codes "project") project_at
 unfolding everything
@@ -87,19 +89,19 @@ index_by (written.CreateIndex def) = def
 index_by _ = record { if_missing = false; name = []; table = []; columns = []; is_unique = false }
 
 abbrev pub wake_text : List ℕ
-wake_text = codes "CREATE INDEX queue_wake ON queue (wake)"
+wake_text = CREATE_QUEUE_WAKE.now
 
 abbrev pub validate_text : List ℕ
-validate_text = codes "CREATE INDEX queue_validate ON queue (to_validate, workunit)"
+validate_text = CREATE_QUEUE_VALIDATE.now
 
 abbrev pub assimilate_text : List ℕ
-assimilate_text = codes "CREATE INDEX queue_assimilate ON queue (to_assimilate, workunit)"
+assimilate_text = CREATE_QUEUE_ASSIMILATE.now
 
 abbrev pub delete_text : List ℕ
-delete_text = codes "CREATE INDEX queue_delete ON queue (to_delete, workunit)"
+delete_text = CREATE_QUEUE_DELETE.now
 
 abbrev pub purge_text : List ℕ
-purge_text = codes "CREATE INDEX queue_purge ON queue (purge_from)"
+purge_text = CREATE_QUEUE_PURGE.now
 
 pub wake_made : DefinesAs wake_text queue_table queue_wake
 unfolding everything index_defined_by index_in

@@ -5,6 +5,7 @@ use Rattle.sqlite_ast.specs.declared.Rows.TheVariants as rows
 use Rattle.sqlite_ast.specs.declared.Statement.TheVariants as written
 use Rattle.wu_schema.proofs.CompileLemmas.{insert_planned, insert_parsed}
 use Rattle.wu_schema.proofs.SelectLemmas.{CompilesTo, compiles_to}
+use Rattle.wu_schema.specs.declared.texts.TheConstants.{INSERT_PROJECT}
 
 abbrev rows_by : Statement → Rows
 rows_by (written.Insert how name columns rs clauses shown) = rs
@@ -53,7 +54,7 @@ module _ (schema : Schema) (title : Name) (at : ℕ) (table : ℕ → Table) (tr
 -- ---- the row of a fresh project
 
 abbrev pub project_put : Put
-project_put = record { text = codes "INSERT INTO project (one, version, next_number) VALUES (1, ?1, 1)"; terms = lit (Int (pos 1)) ∷ lit Null ∷ col 0 0 ∷ lit (Int (pos 1)) ∷ [] }
+project_put = record { text = INSERT_PROJECT.now; terms = lit (Int (pos 1)) ∷ lit Null ∷ col 0 0 ∷ lit (Int (pos 1)) ∷ [] }
 
 pub project_fits : PutFits (codes "project") project_at project_put
 unfolding everything

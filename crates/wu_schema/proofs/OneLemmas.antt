@@ -1,5 +1,5 @@
 -- The probe's text reads no table, so only the store can refuse it.
-use Rattle.wu_schema.proofs.Words.{Compiled, CompileError, Err, Error, IsNotRun, List, Ok, Result, Schema, State, StoreError, [], ap, arith, codes, everything, inl, inr, length, refl, store_error, subst, sym, understood, ℕ, ◌∙◌, ◌≡◌, ◌≤◌, ◌⊎◌}
+use Rattle.wu_schema.proofs.Words.{Compiled, CompileError, Err, Error, IsNotRun, List, Ok, Result, Schema, State, StoreError, [], ap, arith, everything, inl, inr, length, refl, store_error, subst, sym, understood, ℕ, ◌∙◌, ◌≡◌, ◌≤◌, ◌⊎◌}
 use Rattle.sqlite_disk.specs.Disk.{MoreFaults}
 use Rattle.sqlite_trees.specs.declared.error.StoreError.TheVariants as kind
 use Rattle.std.specs.Prelude.{false, ◌≢◌}
@@ -9,9 +9,10 @@ use Rattle.sqlite.specs.declared.error.ErrorCode.TheVariants as code
 use Rattle.sqlite.specs.declared.error.Error.TheVariants.{SqliteFailure, SqlInputError, InvalidParameterCount, MultipleStatement}
 use Rattle.wu_core.specs.declared.fault.Fault.TheVariants.{Broken}
 use Rattle.wu_schema.specs.Faults.{commit_fault_of}
+use Rattle.wu_schema.specs.declared.texts.TheConstants.{SELECT_ONE}
 
 abbrev pub one_text : List ℕ
-one_text = codes "SELECT 1"
+one_text = SELECT_ONE.now
 
 abbrev bare : Schema
 bare = record { tables = []; indexes = []; views = [] }

@@ -1,6 +1,7 @@
 -- The tables of schema versions 1 to 3, wherever the store puts them, and schemas that have those of a version, except
 -- the queue.
 use Rattle.std.specs.Prelude.{◌≡◌, ◌≤◌, ◌^◌, ◌==◌, find, nat_le, false, [], ◌∷◌, Some, None, codes, List, ℕ, true, pos, slice_get}
+use Rattle.wu_core.specs.Limits.{class_version}
 use Rattle.sqlite.specs.Collation.TheVariants.{Binary}
 use Rattle.sqlite.specs.declared.types.Value.TheVariants.{Null, Int}
 use Rattle.sqlite.specs.Term.{lit, col, op2}
@@ -180,7 +181,7 @@ HasNamed schema name table = (at : ℕ) × HasTable schema name at table × Owns
 
 -- The version of the schema has classes of hosts and of workunits.
 abbrev pub IsClassedVersion : ℕ → Type 0
-IsClassedVersion version = 3 ≤ version
+IsClassedVersion version = class_version ≤ version
 
 -- The tree in which the store put each table.
 pub record ProjectTrees : Type 0 where

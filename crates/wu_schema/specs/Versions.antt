@@ -21,10 +21,11 @@ use Rattle.wu_schema.specs.Faults.{fault_of, IsFailure}
 use Rattle.wu_schema.specs.Refines.{Refines}
 use Rattle.wu_schema.specs.Stored.{number}
 use Rattle.wu_schema.specs.Tables.{HasTable}
+use Rattle.wu_schema.specs.declared.texts.TheConstants.{SELECT_VERSION}
 
 -- The question for the version.
 abbrev pub version_text : List ℕ
-version_text = codes "SELECT one, version, next_number FROM project"
+version_text = SELECT_VERSION.now
 
 -- The one row of a project, as it is shown: its key, its version and its next number.
 abbrev pub project_row : Value → ℕ → Row

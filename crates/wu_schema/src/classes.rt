@@ -7,11 +7,11 @@ ghost use Rattle.wu_schema.specs.Made.{MakesTables, class_tables};
 use crate::transaction::execute;
 use sqlite::{Alter, Error, Transaction};
 
-const CREATE_HOST_CLASS: &str = "CREATE TABLE host_class (
+pub const CREATE_HOST_CLASS: &str = "CREATE TABLE host_class (
   host TEXT PRIMARY KEY NOT NULL,
   class INTEGER NOT NULL) STRICT";
 
-const CREATE_WORKUNIT_CLASS: &str = "CREATE TABLE workunit_class (
+pub const CREATE_WORKUNIT_CLASS: &str = "CREATE TABLE workunit_class (
   workunit INTEGER PRIMARY KEY REFERENCES workunit (number) ON DELETE CASCADE,
   class INTEGER NOT NULL) STRICT";
 

@@ -14,9 +14,8 @@ use crate::texts::{
     CREATE_RESULT, CREATE_WORKUNIT, INSERT_PROJECT,
 };
 use crate::transaction::{TransactionWork, execute, transact};
-use crate::version::PRESENT_VERSION;
 use sqlite::{Alter, Connection, Error, Transaction, params};
-use wu_core::Fault;
+use wu_core::{Fault, PRESENT_VERSION};
 
 /// Adds the one row of the project: this version, and 1 as the number of the next workunit.
 fn insert_project<S: Alter>(tx: &mut Transaction<'_, S>, version: i64) -> Result<(), Error>

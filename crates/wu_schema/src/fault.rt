@@ -4,6 +4,7 @@ ghost use Rattle.std.specs.Prelude.{◌≡◌, false};
 ghost use Rattle.wu_schema.specs.Faults.{fault_of, commit_fault_of, IsFailure, IsStoreFault};
 ghost use Rattle.wu_schema.specs.Calls.{BreaksTruly, CommitsNothing, GoesBack, Serves};
 
+use crate::texts::SELECT_ONE;
 use sqlite::{Alter, Connection, Error, ErrorCode};
 use sqlite_resolve::CompileError;
 use sqlite_syntax::error::ParseError;
@@ -53,7 +54,7 @@ fn probe<S: Alter>(conn: &mut Connection<S>) -> Fault
     ensures back { GoesBack S.Store conn.old conn.new }
     ensures crash { CommitsNothing S.Store conn.old conn.new }
 {
-    if let Err(error) = conn.prepare("SELECT 1") {
+    if let Err(error) = conn.prepare(SELECT_ONE) {
         return commit_fault_of(&error);
     }
     Fault::NotAProject

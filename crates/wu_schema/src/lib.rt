@@ -24,4 +24,4 @@ pub use creation::create;
 pub use fault::fault_of;
 pub use queue::make_queue;
 pub use transaction::{TransactionWork, execute, transact};
-pub use version::{PRESENT_VERSION, check_version, version_of};
+pub use version::{check_version, version_of};

@@ -90,3 +90,9 @@ pub const CREATE_QUEUE_ASSIMILATE: &str =
 pub const CREATE_QUEUE_DELETE: &str = "CREATE INDEX queue_delete ON queue (to_delete, workunit)";
 
 pub const CREATE_QUEUE_PURGE: &str = "CREATE INDEX queue_purge ON queue (purge_from)";
+
+/// Asks for the version of a project.
+pub const SELECT_VERSION: &str = "SELECT one, version, next_number FROM project";
+
+/// A question without a table, which only an open connection prepares.
+pub const SELECT_ONE: &str = "SELECT 1";

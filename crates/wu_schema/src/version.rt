@@ -9,12 +9,10 @@ ghost use Rattle.wu_schema.specs.Versions.{AnswersVersion, FailsToAsk, IsAnswere
 
 use crate::columns::version_from;
 use crate::fault::fault_of;
+use crate::texts::SELECT_VERSION;
 use sqlite::{Alter, Connection, Error, Row};
 use sqlite_resolve::CompileError;
-use wu_core::Fault;
-
-/// The version of the schema that a project is created at.
-pub const PRESENT_VERSION: u64 = 3;
+use wu_core::{Fault, PRESENT_VERSION};
 
 /// Asks for the rows of the table `project`.
 fn project_rows<S: Alter>(conn: &mut Connection<S>) -> Result<Vec<Row>, Error>
@@ -34,7 +32,7 @@ fn project_rows<S: Alter>(conn: &mut Connection<S>) -> Result<Vec<Row>, Error>
     ensures missing { OnFault S.Store conn.old conn.new result IsMissingOnly }
     ensures breaks { BreaksAfter S.Store conn.old conn.new result }
 {
-    conn.query_all("SELECT one, version, next_number FROM project", &[])
+    conn.query_all(SELECT_VERSION, &[])
 }
 
 /// Returns the version in the rows of a table `project`.

@@ -20,6 +20,7 @@ use Rattle.wu_store.proofs.EqualLemmas.{number_equal, text_equal}
 use Rattle.wu_store.proofs.OnceLemmas.{one_passes}
 use Rattle.wu_store.proofs.ReadAnswers.{asked_rows, kept_mapped, one_row, only_shown}
 use Rattle.wu_store.proofs.WorldOnce.{bytes_same, once_number}
+use Rattle.wu_store.specs.declared.texts.TheConstants.{SELECT_CLASS, SELECT_HOST_CLASS}
 
 -- ---- a question for a class, whole
 
@@ -67,7 +68,7 @@ module _ (p : Part) (in_p : (version : ℕ) → IsClassedVersion version → IsI
 -- ---- the class of a workunit
 
 abbrev pub class_asked : Asked
-class_asked = record { text = codes "SELECT class FROM workunit_class WHERE workunit = ?1"; parameters = codes "?1" ∷ []; shown = 1 ∷ []; tests = (0, compare.Eq, 0) ∷ []; order = []; limit = None; upto = lit (Int (negsuc 0)) }
+class_asked = record { text = SELECT_CLASS.now; parameters = codes "?1" ∷ []; shown = 1 ∷ []; tests = (0, compare.Eq, 0) ∷ []; order = []; limit = None; upto = lit (Int (negsuc 0)) }
 
 pub class_fits : (tree : ℕ) → Fits (codes "workunit_class") (workunit_class_at tree) class_asked
 unfolding everything
@@ -88,7 +89,7 @@ class_found old new n rows h world known s =
 -- ---- the class of a host
 
 abbrev pub host_asked : Asked
-host_asked = record { text = codes "SELECT class FROM host_class WHERE host = ?1"; parameters = codes "?1" ∷ []; shown = 1 ∷ []; tests = (0, compare.Eq, 0) ∷ []; order = []; limit = None; upto = lit (Int (negsuc 0)) }
+host_asked = record { text = SELECT_HOST_CLASS.now; parameters = codes "?1" ∷ []; shown = 1 ∷ []; tests = (0, compare.Eq, 0) ∷ []; order = []; limit = None; upto = lit (Int (negsuc 0)) }
 
 pub host_fits : (tree : ℕ) → Fits (codes "host_class") (host_class_at tree) host_asked
 unfolding everything

@@ -22,11 +22,12 @@ use Rattle.wu_store.proofs.DeleteTexts.{by_number}
 use Rattle.wu_store.proofs.InPlaceLemmas.{replaced}
 use Rattle.wu_store.proofs.SetEffect.{in_its_place, lists_in_its_place, resets_one, sets_by}
 use Rattle.wu_store.proofs.UpdateEffect.{Sets}
+use Rattle.wu_store.specs.declared.texts.TheConstants.{INSERT_CLASS, UPDATE_CLASS}
 
 -- ---- a class that is put in
 
 abbrev pub class_put : Put
-class_put = record { text = codes "INSERT INTO workunit_class (workunit, class) VALUES (?1, ?2)"; terms = col 0 0 ∷ lit Null ∷ col 0 1 ∷ [] }
+class_put = record { text = INSERT_CLASS.now; terms = col 0 0 ∷ lit Null ∷ col 0 1 ∷ [] }
 
 pub class_fits : PutFits (codes "workunit_class") workunit_class_at class_put
 unfolding everything
@@ -64,7 +65,7 @@ adds_class old new n class puts =
 
 abbrev pub class_set : SetBy
 class_set = record {
-  text = codes "UPDATE workunit_class SET class = ?2 WHERE workunit = ?1";
+  text = UPDATE_CLASS.now;
   parameters = codes "?1" ∷ codes "?2" ∷ [];
   columns = 1 ∷ [];
   tests = (0, compare.Eq, 0) ∷ [];

@@ -8,9 +8,10 @@ use Rattle.wu_schema.proofs.ExprLemmas.{column, parameter, equals, scope, so_far
 use Rattle.wu_schema.proofs.QueryLemmas.{plain_query, alone}
 use Rattle.wu_schema.proofs.SelectLemmas.{test_lowers}
 use Rattle.wu_store.proofs.SelectTexts.{CompilesTo, compiles_to}
+use Rattle.wu_store.specs.declared.texts.TheConstants.{DELETE_WORKUNIT}
 
 abbrev pub delete_text : List ℕ
-delete_text = codes "DELETE FROM workunit WHERE number = ?1"
+delete_text = DELETE_WORKUNIT.now
 
 abbrev numbered : Expr
 numbered = equals (column (codes "number")) (parameter 1)

@@ -37,11 +37,12 @@ use Rattle.wu_store.proofs.FallLemmas.{both_ways, has_own, without_is}
 use Rattle.wu_store.proofs.OnceLemmas.{has_permuted}
 use Rattle.wu_store.proofs.PlacedLemmas.{holds_permuted, holds_put, keeps_put}
 use Rattle.wu_store.proofs.ReadAnswers.{kept_mapped}
+use Rattle.wu_store.specs.declared.texts.TheConstants.{DELETE_HOST_CLASS, INSERT_HOST_CLASS}
 
 -- ---- what the DELETE compiles to
 
 abbrev pub cut_text : List ℕ
-cut_text = codes "DELETE FROM host_class WHERE host = ?1"
+cut_text = DELETE_HOST_CLASS.now
 
 abbrev hosted : Expr
 hosted = equals (column_of (codes "host")) (parameter 1)
@@ -180,7 +181,7 @@ module _ (old new : State) (world : World) (known : KnowsClasses world) (s : Ref
 -- ---- a class for a host that has none
 
 abbrev pub host_put : Put
-host_put = record { text = codes "INSERT INTO host_class (host, class) VALUES (?1, ?2)"; terms = lit Null ∷ col 0 0 ∷ col 0 1 ∷ [] }
+host_put = record { text = INSERT_HOST_CLASS.now; terms = lit Null ∷ col 0 0 ∷ col 0 1 ∷ [] }
 
 pub host_fits : PutFits (codes "host_class") host_class_at host_put
 unfolding everything

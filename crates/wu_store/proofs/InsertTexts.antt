@@ -1,14 +1,14 @@
 -- The INSERTs of the changes: each text with its row, and that it fits its table.
-use Rattle.wu_schema.proofs.Words.{Null, [], append-nil, archived_at, codes, col, everything, grant_at, import_at, lit, refl, result_at, workunit_at, ◌∷◌, ◌++◌}
+use Rattle.wu_schema.proofs.Words.{Null, [], append-nil, archived_at, codes, col, everything, grant_at, import_at, lit, refl, result_at, workunit_at, ◌∷◌}
 use Rattle.wu_schema.specs.Tables.{queue_at}
 use Rattle.wu_schema.proofs.InsertTexts.{Put, PutFits}
-use Rattle.wu_store.proofs.SelectTexts.{instance_columns, workunit_columns}
+use Rattle.wu_store.specs.declared.texts.TheConstants.{INSERT_ARCHIVED, INSERT_GRANT, INSERT_IMPORT, INSERT_MARKS, INSERT_RESULT, INSERT_WORKUNIT}
 
 -- ---- a workunit
 
 abbrev pub workunit_put : Put
 workunit_put = record {
-  text = codes "INSERT INTO workunit (" ++ workunit_columns ++ codes ") VALUES (?1, ?2, ?3, ?4, ?5, ?6, ?7, ?8, ?9, ?10, ?11, ?12, ?13, ?14, ?15)";
+  text = INSERT_WORKUNIT.now;
   terms = col 0 0 ∷ lit Null ∷ col 0 1 ∷ col 0 2 ∷ col 0 3 ∷ col 0 4 ∷ col 0 5 ∷ col 0 6 ∷ col 0 7 ∷ col 0 8 ∷ col 0 9 ∷ col 0 10 ∷ col 0 11 ∷ col 0 12 ∷ col 0 13 ∷ col 0 14 ∷ [];
 }
 
@@ -20,7 +20,7 @@ workunit_fits = record { read = refl; made = λ schema tree. refl; formats = λ 
 
 abbrev pub instance_put : Put
 instance_put = record {
-  text = codes "INSERT INTO result (workunit, n, " ++ instance_columns ++ codes ") VALUES (?1, ?2, ?3, ?4, ?5, ?6, ?7, ?8, ?9, ?10, ?11)";
+  text = INSERT_RESULT.now;
   terms = lit Null ∷ col 0 0 ∷ col 0 1 ∷ col 0 2 ∷ col 0 3 ∷ col 0 4 ∷ col 0 5 ∷ col 0 6 ∷ col 0 7 ∷ col 0 8 ∷ col 0 9 ∷ col 0 10 ∷ [];
 }
 
@@ -31,7 +31,7 @@ instance_fits = record { read = refl; made = λ schema tree. refl; formats = λ 
 -- ---- a grant
 
 abbrev pub grant_put : Put
-grant_put = record { text = codes "INSERT INTO credit_grant (seq, workunit, n, host, credit) VALUES (?1, ?2, ?3, ?4, ?5)"; terms = col 0 0 ∷ lit Null ∷ col 0 1 ∷ col 0 2 ∷ col 0 3 ∷ col 0 4 ∷ [] }
+grant_put = record { text = INSERT_GRANT.now; terms = col 0 0 ∷ lit Null ∷ col 0 1 ∷ col 0 2 ∷ col 0 3 ∷ col 0 4 ∷ [] }
 
 pub grant_fits : PutFits (codes "credit_grant") grant_at grant_put
 unfolding everything
@@ -41,7 +41,7 @@ grant_fits = record { read = refl; made = λ schema tree. refl; formats = λ tre
 
 abbrev pub archived_put : Put
 archived_put = record {
-  text = codes "INSERT INTO archived (seq, number, name, error_mask, canonical, output, done_at) VALUES (?1, ?2, ?3, ?4, ?5, ?6, ?7)";
+  text = INSERT_ARCHIVED.now;
   terms = col 0 0 ∷ lit Null ∷ col 0 1 ∷ col 0 2 ∷ col 0 3 ∷ col 0 4 ∷ col 0 5 ∷ col 0 6 ∷ [];
 }
 
@@ -52,7 +52,7 @@ archived_fits = record { read = refl; made = λ schema tree. refl; formats = λ 
 -- ---- an import
 
 abbrev pub import_put : Put
-import_put = record { text = codes "INSERT INTO import (kind, name, template, content, first_number, verdicts) VALUES (?1, ?2, ?3, ?4, ?5, ?6)"; terms = lit Null ∷ col 0 0 ∷ col 0 1 ∷ col 0 2 ∷ col 0 3 ∷ col 0 4 ∷ col 0 5 ∷ [] }
+import_put = record { text = INSERT_IMPORT.now; terms = lit Null ∷ col 0 0 ∷ col 0 1 ∷ col 0 2 ∷ col 0 3 ∷ col 0 4 ∷ col 0 5 ∷ [] }
 
 pub import_fits : PutFits (codes "import") import_at import_put
 unfolding everything
@@ -62,7 +62,7 @@ import_fits = record { read = refl; made = λ schema tree. refl; formats = λ tr
 
 abbrev pub queue_put : Put
 queue_put = record {
-  text = codes "INSERT INTO queue (workunit, wake, to_validate, to_assimilate, to_delete, purge_from) VALUES (?1, ?2, ?3, ?4, ?5, ?6)";
+  text = INSERT_MARKS.now;
   terms = col 0 0 ∷ lit Null ∷ col 0 1 ∷ col 0 2 ∷ col 0 3 ∷ col 0 4 ∷ col 0 5 ∷ [];
 }
 

@@ -26,6 +26,7 @@ use Rattle.wu_store.specs.Answers.{last_archived, last_grant, last_of, last_plac
 use Rattle.wu_store.proofs.AskLemmas.{IsQuestion}
 use Rattle.wu_store.proofs.OrderAnswers.{in_order, pair, passing, sorted, sure_sorted}
 use Rattle.wu_schema.proofs.Parts.{Part, Grants, Archive, IsIn, table_in, table_of, tree_in, name_of, parts_there}
+use Rattle.wu_store.specs.declared.texts.TheConstants.{SELECT_LAST_ARCHIVED, SELECT_LAST_GRANT}
 
 -- ---- what the text compiles to
 
@@ -192,14 +193,14 @@ module _ (p : Part) (text : List ℕ) (fits : (tree : ℕ) → FitsLast (name_of
 -- ---- the last grant, and the last archived workunit
 
 abbrev pub grant_text : List ℕ
-grant_text = codes "SELECT seq FROM credit_grant ORDER BY seq DESC LIMIT 1"
+grant_text = SELECT_LAST_GRANT.now
 
 pub grant_fits : (tree : ℕ) → FitsLast (codes "credit_grant") (grant_at tree) grant_text
 unfolding everything
 grant_fits tree = record { shown = refl; keyed = refl; read = refl; typed = refl }
 
 abbrev pub archived_text : List ℕ
-archived_text = codes "SELECT seq FROM archived ORDER BY seq DESC LIMIT 1"
+archived_text = SELECT_LAST_ARCHIVED.now
 
 pub archived_fits : (tree : ℕ) → FitsLast (codes "archived") (archived_at tree) archived_text
 unfolding everything

@@ -1,5 +1,5 @@
 -- What a SELECT in the order of the key answers.
-use Rattle.wu_schema.proofs.Words.{drop, filter-map, Binary, Bool, Database, Int, IsAnswerAs, IsAscending, IsPermutation, IsPermutation-refl, IsPermutation-trans, IsTable, Less, List, Null, Ordering, Output, Query, Row, Shown, Some, Refines, State, Term, Workunit, World, [], all_from, all_has, ap, col, column, cond, eval_all, false, filter, find, flat_map, has_filtered, has_mapped, holds, if◌then◌else◌, list_all, lit, map, map-map, nat_le, nat_lt, negsuc, number, option_map, option_to_list, output, overlay, pos, refl, rowid, stored_workunit, subst, sym, take, true, value_cmp, workunit_row, ℕ, ◌++◌, ◌^◌, ◌∙◌, ◌∷◌, ◌≡◌}
+use Rattle.wu_schema.proofs.Words.{drop, filter-map, Binary, Bool, Database, Int, IsAnswerAs, IsAscending, IsPermutation, IsPermutation-refl, IsPermutation-trans, IsTable, Less, List, Null, Ordering, Output, Query, Row, Shown, Some, Refines, State, Term, Workunit, World, [], all_from, all_has, ap, col, column, cond, eval_all, false, filter, find, flat_map, has_filtered, has_mapped, holds, if◌then◌else◌, list_all, lit, map, map-map, nat_le, nat_lt, number, option_map, option_to_list, output, overlay, pos, refl, rowid, stored_workunit, subst, sym, take, true, value_cmp, workunit_row, ℕ, ◌++◌, ◌^◌, ◌∙◌, ◌∷◌, ◌≡◌}
 use Rattle.std.specs.Ordering.{on}
 use Rattle.sqlite_value.specs.Keys.{directed}
 use Rattle.sqlite_value.specs.declared.keys.Key.{Key}
@@ -9,10 +9,10 @@ use Rattle.sqlite.specs.Query.{IsSureAnswer, output_cmp, page}
 use Rattle.wu_store.specs.Answers.{first_above}
 use Rattle.wu_store.proofs.EqualLemmas.{number_above}
 use Rattle.wu_schema.proofs.QueryLemmas.{plain_query}
-use Rattle.wu_store.proofs.SelectTexts.{all_asked, all_fits, all_shows, above_asked, above_fits, above_tests}
+use Rattle.wu_store.proofs.SelectTexts.{all_shows, above_asked, above_fits, above_tests}
 use Rattle.wu_schema.proofs.Parts.{Workunits}
 use Rattle.wu_store.proofs.ReadAnswers.{asked_answers}
-use Rattle.wu_schema.proofs.RowLemmas.{filter_same, no_test, one_test}
+use Rattle.wu_schema.proofs.RowLemmas.{filter_same, one_test}
 use Rattle.wu_store.proofs.OneOrder.{one_order}
 
 -- the order in which a column rises, or falls
@@ -113,19 +113,6 @@ module _ (tree : ℕ) (test shows : List Term) (limit : Term) (params : Row) whe
   sure_in_order db rows low up h =
       sure_sorted tree test shows 0 false limit params db rows (map keyed (kept_in (db.trees tree))) low (kept_rise (passing tree test shows 0 false limit params) (db.trees tree) up) (IsPermutation-refl _) h
       ∙ ap (page (sorted tree test shows 0 false limit params) params) (map-map (λ (o : Output). o.1) keyed (kept_in (db.trees tree)))
-
--- ---- all workunits
-
-rows_shown : (ws : List Workunit) → map (λ r. eval_all all_shows ([] ∷ r ∷ [])) (map stored_workunit ws) ≡ map workunit_row ws
-rows_shown [] = refl
-rows_shown (w ∷ ws) = ap (λ all. workunit_row w ∷ all) (rows_shown ws)
-
-module _ (old new : State) (world : World) (s : Refines old.now world) where
-  pub workunits_found : (rows : List Row) → Shown all_asked.text [] old new rows → rows ≡ map workunit_row world.workunits
-  workunits_found rows h =
-      let tree = s.trees.workunit in
-      let read = asked_answers Workunits all_asked all_fits old new world s tt [] rows h in
-      sure_in_order tree [] all_shows (lit (Int (negsuc 0))) [] old.now rows s.tables.workunit.1.low s.rows.workunits.shaped.0 read.answer ∙ ap (map (λ r. eval_all all_shows ([] ∷ r ∷ []))) (no_test (old.now.trees tree) ∙ s.rows.workunits.same) ∙ rows_shown world.workunits
 
 -- ---- the first above a number
 

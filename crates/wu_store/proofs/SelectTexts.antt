@@ -1,5 +1,5 @@
 -- The SELECTs: each text, what it asks for, and that it fits its table.
-use Rattle.wu_schema.proofs.Words.{Expr-F, Int, List, Name, None, Some, Term, [], archived_at, arith, codes, col, everything, import_at, lit, negsuc, pos, project_at, refl, result_at, roll-Expr, suc, workunit_at, ℕ, ◌∷◌, ◌++◌}
+use Rattle.wu_schema.proofs.Words.{Expr-F, Int, List, Name, None, Some, Term, [], archived_at, arith, codes, col, everything, import_at, lit, negsuc, pos, project_at, refl, result_at, roll-Expr, suc, workunit_at, ℕ, ◌∷◌}
 use Rattle.sqlite_sql.specs.declared.ops.CompareOp.TheVariants as compare
 use Rattle.wu_schema.specs.Tables.{queue_at}
 use Rattle.wu_rules.specs.declared.due.Pass.{Pass}
@@ -7,22 +7,17 @@ use Rattle.wu_rules.specs.declared.due.Pass.TheVariants.{Transition, Validate, A
 use Rattle.wu_store.specs.Queues.{marked_text}
 pub use Rattle.wu_schema.proofs.SelectLemmas.{CompilesTo, compiles_to, Asked, Fits, Test}
 use Rattle.wu_schema.proofs.ExprLemmas.{same, more, parameter}
+use Rattle.wu_store.specs.declared.texts.TheConstants.{SELECT_ABOVE, SELECT_ARCHIVED, SELECT_IMPORT, SELECT_INSTANCES, SELECT_NAMED, SELECT_NEXT_NUMBER, SELECT_NUMBER, SELECT_NUMBERED}
 
 -- ---- the columns of a workunit and of an instance, as each statement that has all of them lists them
-
-abbrev pub workunit_columns : List ℕ
-workunit_columns = codes "number, name, min_quorum, target_nresults, max_error_results, max_total_results, max_success_results, delay_bound, credit, input, error_mask, canonical, assimilate, file_delete, done_at"
 
 abbrev pub workunit_shown : List ℕ
 workunit_shown = 0 ∷ 1 ∷ 2 ∷ 3 ∷ 4 ∷ 5 ∷ 6 ∷ 7 ∷ 8 ∷ 9 ∷ 10 ∷ 11 ∷ 12 ∷ 13 ∷ 14 ∷ []
 
-abbrev pub instance_columns : List ℕ
-instance_columns = codes "server_state, outcome, validate_state, file_delete, host, sent_at, deadline, received_at, output"
-
 -- ---- the import of a kind and a name
 
 abbrev pub import_asked : Asked
-import_asked = record { text = codes "SELECT template, content, first_number, verdicts FROM import WHERE kind = ?1 AND name = ?2"; parameters = codes "?1" ∷ codes "?2" ∷ []; shown = 2 ∷ 3 ∷ 4 ∷ 5 ∷ []; tests = (0, compare.Eq, 0) ∷ (1, compare.Eq, 1) ∷ []; order = []; limit = None; upto = lit (Int (negsuc 0)) }
+import_asked = record { text = SELECT_IMPORT.now; parameters = codes "?1" ∷ codes "?2" ∷ []; shown = 2 ∷ 3 ∷ 4 ∷ 5 ∷ []; tests = (0, compare.Eq, 0) ∷ (1, compare.Eq, 1) ∷ []; order = []; limit = None; upto = lit (Int (negsuc 0)) }
 
 pub import_fits : (tree : ℕ) → Fits (codes "import") (import_at tree) import_asked
 unfolding everything
@@ -37,7 +32,7 @@ import_shows = col 1 3 ∷ col 1 4 ∷ col 1 5 ∷ col 1 6 ∷ []
 -- ---- the workunit of a name
 
 abbrev pub workunit_asked : Asked
-workunit_asked = record { text = codes "SELECT number FROM workunit WHERE name = ?1"; parameters = codes "?1" ∷ []; shown = 0 ∷ []; tests = (1, compare.Eq, 0) ∷ []; order = []; limit = None; upto = lit (Int (negsuc 0)) }
+workunit_asked = record { text = SELECT_NUMBER.now; parameters = codes "?1" ∷ []; shown = 0 ∷ []; tests = (1, compare.Eq, 0) ∷ []; order = []; limit = None; upto = lit (Int (negsuc 0)) }
 
 pub workunit_fits : (tree : ℕ) → Fits (codes "workunit") (workunit_at tree) workunit_asked
 unfolding everything
@@ -49,7 +44,7 @@ workunit_tests = same (col 1 2) (col 0 0) ∷ []
 -- ---- the row of the workunit of a name
 
 abbrev pub named_asked : Asked
-named_asked = record { text = codes "SELECT " ++ workunit_columns ++ codes " FROM workunit WHERE name = ?1"; parameters = codes "?1" ∷ []; shown = workunit_shown; tests = (1, compare.Eq, 0) ∷ []; order = []; limit = None; upto = lit (Int (negsuc 0)) }
+named_asked = record { text = SELECT_NAMED.now; parameters = codes "?1" ∷ []; shown = workunit_shown; tests = (1, compare.Eq, 0) ∷ []; order = []; limit = None; upto = lit (Int (negsuc 0)) }
 
 pub named_fits : (tree : ℕ) → Fits (codes "workunit") (workunit_at tree) named_asked
 unfolding everything
@@ -58,7 +53,7 @@ named_fits tree = record { shown = refl; tests = refl; strict = refl; order = re
 -- ---- the row of the workunit of a number
 
 abbrev pub numbered_asked : Asked
-numbered_asked = record { text = codes "SELECT " ++ workunit_columns ++ codes " FROM workunit WHERE number = ?1"; parameters = codes "?1" ∷ []; shown = workunit_shown; tests = (0, compare.Eq, 0) ∷ []; order = []; limit = None; upto = lit (Int (negsuc 0)) }
+numbered_asked = record { text = SELECT_NUMBERED.now; parameters = codes "?1" ∷ []; shown = workunit_shown; tests = (0, compare.Eq, 0) ∷ []; order = []; limit = None; upto = lit (Int (negsuc 0)) }
 
 pub numbered_fits : (tree : ℕ) → Fits (codes "workunit") (workunit_at tree) numbered_asked
 unfolding everything
@@ -70,7 +65,7 @@ numbered_tests = same (col 1 0) (col 0 0) ∷ []
 -- ---- the archived workunit of a name
 
 abbrev pub archived_asked : Asked
-archived_asked = record { text = codes "SELECT number FROM archived WHERE name = ?1"; parameters = codes "?1" ∷ []; shown = 1 ∷ []; tests = (2, compare.Eq, 0) ∷ []; order = []; limit = None; upto = lit (Int (negsuc 0)) }
+archived_asked = record { text = SELECT_ARCHIVED.now; parameters = codes "?1" ∷ []; shown = 1 ∷ []; tests = (2, compare.Eq, 0) ∷ []; order = []; limit = None; upto = lit (Int (negsuc 0)) }
 
 pub archived_fits : (tree : ℕ) → Fits (codes "archived") (archived_at tree) archived_asked
 unfolding everything
@@ -79,7 +74,7 @@ archived_fits tree = record { shown = refl; tests = refl; strict = refl; order =
 -- ---- the next number
 
 abbrev pub next_asked : Asked
-next_asked = record { text = codes "SELECT next_number FROM project"; parameters = []; shown = 2 ∷ []; tests = []; order = []; limit = None; upto = lit (Int (negsuc 0)) }
+next_asked = record { text = SELECT_NEXT_NUMBER.now; parameters = []; shown = 2 ∷ []; tests = []; order = []; limit = None; upto = lit (Int (negsuc 0)) }
 
 pub next_fits : (tree : ℕ) → Fits (codes "project") (project_at tree) next_asked
 unfolding everything
@@ -88,14 +83,7 @@ next_fits tree = record { shown = refl; tests = refl; strict = refl; order = ref
 abbrev pub next_shows : List Term
 next_shows = col 1 3 ∷ []
 
--- ---- all workunits, in order of number
-
-abbrev pub all_asked : Asked
-all_asked = record { text = codes "SELECT " ++ workunit_columns ++ codes " FROM workunit ORDER BY number"; parameters = []; shown = workunit_shown; tests = []; order = 0 ∷ []; limit = None; upto = lit (Int (negsuc 0)) }
-
-pub all_fits : (tree : ℕ) → Fits (codes "workunit") (workunit_at tree) all_asked
-unfolding everything
-all_fits tree = record { shown = refl; tests = refl; strict = refl; order = refl; height = (0, tt); few = omega arith; limit = λ schema. refl; read = refl; typed = refl }
+-- ---- the columns of a workunit, as they are shown
 
 abbrev pub all_shows : List Term
 all_shows = col 1 0 ∷ col 1 2 ∷ col 1 3 ∷ col 1 4 ∷ col 1 5 ∷ col 1 6 ∷ col 1 7 ∷ col 1 8 ∷ col 1 9 ∷ col 1 10 ∷ col 1 11 ∷ col 1 12 ∷ col 1 13 ∷ col 1 14 ∷ col 1 15 ∷ []
@@ -103,7 +91,7 @@ all_shows = col 1 0 ∷ col 1 2 ∷ col 1 3 ∷ col 1 4 ∷ col 1 5 ∷ col 1 6 
 -- ---- the first workunit above a number
 
 abbrev pub above_asked : Asked
-above_asked = record { text = codes "SELECT " ++ workunit_columns ++ codes " FROM workunit WHERE number > ?1 ORDER BY number LIMIT 1"; parameters = codes "?1" ∷ []; shown = workunit_shown; tests = (0, compare.Gt, 0) ∷ []; order = 0 ∷ []; limit = Some (roll-Expr (Expr-F.Integer (codes "1"))); upto = lit (Int (pos 1)) }
+above_asked = record { text = SELECT_ABOVE.now; parameters = codes "?1" ∷ []; shown = workunit_shown; tests = (0, compare.Gt, 0) ∷ []; order = 0 ∷ []; limit = Some (roll-Expr (Expr-F.Integer (codes "1"))); upto = lit (Int (pos 1)) }
 
 pub above_fits : (tree : ℕ) → Fits (codes "workunit") (workunit_at tree) above_asked
 unfolding everything
@@ -115,7 +103,7 @@ above_tests = more (col 1 0) (col 0 0) ∷ []
 -- ---- the instances of a workunit, in order of their numbers
 
 abbrev pub instances_asked : Asked
-instances_asked = record { text = codes "SELECT " ++ instance_columns ++ codes " FROM result WHERE workunit = ?1 ORDER BY n"; parameters = codes "?1" ∷ []; shown = 2 ∷ 3 ∷ 4 ∷ 5 ∷ 6 ∷ 7 ∷ 8 ∷ 9 ∷ 10 ∷ []; tests = (0, compare.Eq, 0) ∷ []; order = 1 ∷ []; limit = None; upto = lit (Int (negsuc 0)) }
+instances_asked = record { text = SELECT_INSTANCES.now; parameters = codes "?1" ∷ []; shown = 2 ∷ 3 ∷ 4 ∷ 5 ∷ 6 ∷ 7 ∷ 8 ∷ 9 ∷ 10 ∷ []; tests = (0, compare.Eq, 0) ∷ []; order = 1 ∷ []; limit = None; upto = lit (Int (negsuc 0)) }
 
 pub instances_fits : (tree : ℕ) → Fits (codes "result") (result_at tree) instances_asked
 unfolding everything

@@ -25,10 +25,11 @@ use Rattle.wu_store.proofs.InstanceLemmas.{fits, instances_left}
 use Rattle.wu_store.proofs.ReadAnswers.{find_only, once_numbered}
 use Rattle.wu_store.proofs.SetEffect.{replaced_shaped, sets_by}
 use Rattle.wu_store.proofs.UpdateEffect.{Sets, resets}
+use Rattle.wu_store.specs.declared.texts.TheConstants.{UPDATE_RESULT}
 
 abbrev pub instance_set : SetBy
 instance_set = record {
-  text = codes "UPDATE result SET server_state = ?3, outcome = ?4, validate_state = ?5, file_delete = ?6, host = ?7, sent_at = ?8, deadline = ?9, received_at = ?10, output = ?11 WHERE workunit = ?1 AND n = ?2";
+  text = UPDATE_RESULT.now;
   parameters = codes "?1" ∷ codes "?2" ∷ codes "?3" ∷ codes "?4" ∷ codes "?5" ∷ codes "?6" ∷ codes "?7" ∷ codes "?8" ∷ codes "?9" ∷ codes "?10" ∷ codes "?11" ∷ [];
   columns = 2 ∷ 3 ∷ 4 ∷ 5 ∷ 6 ∷ 7 ∷ 8 ∷ 9 ∷ 10 ∷ [];
   tests = (0, compare.Eq, 0) ∷ (1, compare.Eq, 1) ∷ [];

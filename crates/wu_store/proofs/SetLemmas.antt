@@ -19,12 +19,13 @@ use Rattle.wu_store.proofs.EqualLemmas.{number_tied}
 use Rattle.wu_store.proofs.InPlaceLemmas.{replaced}
 use Rattle.wu_store.proofs.SetEffect.{IsOne, found_is, found_one, in_its_place, lists_in_its_place, resets_one, sets_by}
 use Rattle.wu_store.proofs.UpdateEffect.{Sets}
+use Rattle.wu_store.specs.declared.texts.TheConstants.{UPDATE_MARKS, UPDATE_WORKUNIT}
 
 -- ---- the marks of a workunit
 
 abbrev pub marks_set : SetBy
 marks_set = record {
-  text = codes "UPDATE queue SET wake = ?2, to_validate = ?3, to_assimilate = ?4, to_delete = ?5, purge_from = ?6 WHERE workunit = ?1";
+  text = UPDATE_MARKS.now;
   parameters = codes "?1" ∷ codes "?2" ∷ codes "?3" ∷ codes "?4" ∷ codes "?5" ∷ codes "?6" ∷ [];
   columns = 1 ∷ 2 ∷ 3 ∷ 4 ∷ 5 ∷ [];
   tests = (0, compare.Eq, 0) ∷ [];
@@ -57,7 +58,7 @@ module _ (old new : State) (world : World) (s : Refines old.now world) (marked :
 
 abbrev pub workunit_set : SetBy
 workunit_set = record {
-  text = codes "UPDATE workunit SET name = ?2, min_quorum = ?3, target_nresults = ?4, max_error_results = ?5, max_total_results = ?6, max_success_results = ?7, delay_bound = ?8, credit = ?9, input = ?10, error_mask = ?11, canonical = ?12, assimilate = ?13, file_delete = ?14, done_at = ?15 WHERE number = ?1";
+  text = UPDATE_WORKUNIT.now;
   parameters = codes "?1" ∷ codes "?2" ∷ codes "?3" ∷ codes "?4" ∷ codes "?5" ∷ codes "?6" ∷ codes "?7" ∷ codes "?8" ∷ codes "?9" ∷ codes "?10" ∷ codes "?11" ∷ codes "?12" ∷ codes "?13" ∷ codes "?14" ∷ codes "?15" ∷ [];
   columns = 1 ∷ 2 ∷ 3 ∷ 4 ∷ 5 ∷ 6 ∷ 7 ∷ 8 ∷ 9 ∷ 10 ∷ 11 ∷ 12 ∷ 13 ∷ 14 ∷ [];
   tests = (0, compare.Eq, 0) ∷ [];

@@ -5,6 +5,7 @@ use Rattle.sqlite_resolve.specs.Write.{updated}
 use Rattle.wu_schema.proofs.SelectLemmas.{CompilesTo, compiles_to}
 use Rattle.wu_schema.proofs.ExprLemmas.{parameter, parameter_lowers}
 use Rattle.wu_schema.proofs.QueryLemmas.{plain_query, alone}
+use Rattle.wu_store.specs.declared.texts.TheConstants.{UPDATE_NEXT_NUMBER, UPDATE_VERSION}
 
 -- the text, read
 abbrev pub set_parsed : (text column : List ℕ) → Parsed
@@ -23,7 +24,7 @@ update_compiles text column made sets schema at tree has = compiles_to schema te
 -- ---- the next number
 
 abbrev pub next_text : List ℕ
-next_text = codes "UPDATE project SET next_number = ?1"
+next_text = UPDATE_NEXT_NUMBER.now
 
 abbrev pub next_made : List Term
 next_made = col 1 0 ∷ col 1 0 ∷ lit Null ∷ col 1 2 ∷ col 0 0 ∷ []
@@ -46,7 +47,7 @@ next_set = record { read = next_read; planned_as = next_planned }
 -- ---- the version
 
 abbrev pub version_set_text : List ℕ
-version_set_text = codes "UPDATE project SET version = ?1"
+version_set_text = UPDATE_VERSION.now
 
 abbrev pub version_made : List Term
 version_made = col 1 0 ∷ col 1 0 ∷ lit Null ∷ col 0 0 ∷ col 1 3 ∷ []

@@ -15,9 +15,10 @@ use Rattle.sqlite_resolve.specs.Write.{level_of, updated_in, places}
 use Rattle.wu_store.proofs.SelectTexts.{CompilesTo, compiles_to}
 use Rattle.wu_schema.proofs.ExprLemmas.{column, parameter, so_far, same, lower_step}
 use Rattle.wu_schema.proofs.QueryLemmas.{plain_query, alone}
+use Rattle.wu_store.specs.declared.texts.TheConstants.{UPSERT_HOST}
 
 abbrev pub upsert_text : List ℕ
-upsert_text = codes "INSERT INTO host (name, total, grants) VALUES (?1, ?2, ?3) ON CONFLICT (name) DO UPDATE SET total = total + excluded.total, grants = grants + excluded.grants"
+upsert_text = UPSERT_HOST.now
 
 abbrev plus : Expr → Expr → Expr
 plus a b = roll-Expr (Expr-F.Binary binary.Add a b)

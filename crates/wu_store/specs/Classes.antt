@@ -5,6 +5,7 @@ use Rattle.sqlite.specs.Held.{Held, state}
 use Rattle.sqlite.specs.State.{HasCleanDisk}
 use Rattle.sqlite.specs.Store.{Ghosts}
 use Rattle.wu_core.specs.Classes.{class_of, with_class}
+use Rattle.wu_core.specs.Limits.{class_version}
 use Rattle.wu_core.specs.Storable.{IsClass}
 use Rattle.wu_core.specs.World.{World}
 use Rattle.wu_core.specs.declared.fault.Fault.{Fault}
@@ -47,7 +48,7 @@ FillsClasses rows old new =
 -- The world is set to version 3, if its tables of classes have class 0 for each workunit and no other row.
 abbrev pub SetsVersion : ℕ → Database → Database → Type 0
 SetsVersion version old new =
-    (world : World) → version ≡ 3 → ¬ KnowsClasses world → Refines old world → HasClassTables old (unbound_in world) → Refines new (with_version version world)
+    (world : World) → version ≡ class_version → ¬ KnowsClasses world → Refines old world → HasClassTables old (unbound_in world) → Refines new (with_version version world)
 
 -- A world of an older version, whose marks these are, gets the tables of classes and is then at their version. A queue
 -- stays.

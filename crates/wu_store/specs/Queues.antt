@@ -1,5 +1,5 @@
 -- What each statement makes of the queue, and what is asked about it.
-use Rattle.std.specs.Prelude.{codes, ◌≡◌, ◌≢◌, ℕ, ◌==◌, nat_le, Bool, false, not, List, [], ◌∷◌, filter, map, take, None, Result, Vec, IfErr, if◌then◌else◌}
+use Rattle.std.specs.Prelude.{◌≡◌, ◌≢◌, ℕ, ◌==◌, nat_le, Bool, false, not, List, [], ◌∷◌, filter, map, take, None, Result, Vec, IfErr, if◌then◌else◌}
 use Rattle.std.specs.Option.{option_map_or}
 use Rattle.std.specs.Ordering.{nat_cmp, match_ordering}
 use Rattle.sqlite.specs.Effect.{Database}
@@ -17,6 +17,7 @@ use Rattle.wu_schema.specs.Calls.{OnAnswer}
 use Rattle.wu_schema.specs.Queue.{HasQueue}
 use Rattle.wu_schema.specs.Refines.{Refines}
 use Rattle.wu_schema.specs.Stored.{number}
+use Rattle.wu_store.specs.declared.texts.TheConstants.{SELECT_TO_ASSIMILATE, SELECT_TO_DELETE, SELECT_TO_PURGE, SELECT_TO_VALIDATE, SELECT_TO_WAKE}
 
 -- The list with this at its place in order of number; it replaces what has its number.
 abbrev pub at_place : {X : Type 0} → (X → ℕ) → X → List X → List X
@@ -69,11 +70,11 @@ is_marked Purge by marks = waits_since by marks
 
 -- The question for the workunits that are marked for this pass.
 abbrev pub marked_text : Pass → List ℕ
-marked_text Transition = codes "SELECT workunit FROM queue WHERE wake >= ?1 AND wake <= ?2 ORDER BY workunit LIMIT ?3"
-marked_text Validate = codes "SELECT workunit FROM queue WHERE to_validate = ?1 ORDER BY workunit LIMIT ?2"
-marked_text Assimilate = codes "SELECT workunit FROM queue WHERE to_assimilate = ?1 ORDER BY workunit LIMIT ?2"
-marked_text Delete = codes "SELECT workunit FROM queue WHERE to_delete = ?1 ORDER BY workunit LIMIT ?2"
-marked_text Purge = codes "SELECT workunit FROM queue WHERE purge_from >= ?1 AND purge_from <= ?2 ORDER BY workunit LIMIT ?3"
+marked_text Transition = SELECT_TO_WAKE.now
+marked_text Validate = SELECT_TO_VALIDATE.now
+marked_text Assimilate = SELECT_TO_ASSIMILATE.now
+marked_text Delete = SELECT_TO_DELETE.now
+marked_text Purge = SELECT_TO_PURGE.now
 
 -- The answer is what a queue that is there has.
 abbrev pub AnswersQueue : {S A : Type 0} → Ghosts S → Held S → Held S → Result (Vec Row A) Fault → (List (ℕ × Marks) → List Row) → Type 0

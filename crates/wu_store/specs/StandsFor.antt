@@ -4,6 +4,7 @@ use Rattle.sqlite.specs.Effect.{Database}
 use Rattle.sqlite.specs.Held.{Held, state}
 use Rattle.sqlite.specs.State.{HasCleanDisk}
 use Rattle.sqlite.specs.Store.{Ghosts}
+use Rattle.wu_core.specs.Limits.{queue_version}
 use Rattle.wu_core.specs.World.{World}
 use Rattle.wu_core.specs.declared.fault.Fault.{Fault}
 use Rattle.wu_core.specs.declared.fault.Fault.TheVariants.{NotAProject}
@@ -20,7 +21,7 @@ marked world = map (λ (w : Workunit). (w.number, marks w)) world.workunits
 
 -- The world is of a version that has a queue.
 abbrev pub IsQueued : World → Type 0
-IsQueued world = 2 ≤ world.version
+IsQueued world = queue_version ≤ world.version
 
 -- The world is of a version that has classes, and so a queue.
 abbrev pub KnowsClasses : World → Type 0

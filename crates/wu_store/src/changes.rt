@@ -20,7 +20,7 @@ use crate::statements::{
 use crate::verdicts::Verdicts;
 use sqlite::{Alter, Error, Transaction};
 use std::alloc::Global;
-use wu_core::{Archived, Grant, ImportKind, Instance, Marks, Name, Workunit};
+use wu_core::{Archived, Grant, ImportKind, Instance, Marks, Name, QUEUE_VERSION, Workunit};
 use wu_rules::marks_of;
 use wu_schema::make_queue;
 
@@ -73,9 +73,6 @@ pub enum Change<'a> {
     /// workunits.
     Upgrade(u64, Vec<(u64, Marks)>),
 }
-
-/// The version of the schema from which on there is a queue.
-const QUEUE_VERSION: u64 = 2;
 
 // It is written out, so that a caller does not prove again how each part is dropped.
 impl Drop for Change<'_> {

@@ -8,13 +8,14 @@ ghost use Rattle.wu_store.specs.Classes.{AddsClass, AnswersClass, ChangesClasses
 ghost use Rattle.wu_store.specs.Loading.{Asks, IsStoreFault, ServesUnlessFailed};
 
 use crate::statements::{ask_row, key_of, set_version, signed};
+use crate::texts::{
+    DELETE_HOST_CLASS, INSERT_CLASS, INSERT_HOST_CLASS, SELECT_CLASS, SELECT_HOST_CLASS,
+    UPDATE_CLASS,
+};
 use sqlite::{Alter, Connection, Error, Transaction, params};
-use wu_core::{Fault, Marks, Name};
+use wu_core::{CLASS_VERSION, Fault, Marks, Name};
 use wu_schema::rows::class_at;
 use wu_schema::{execute, make_classes};
-
-/// The version of the schema that has classes.
-const CLASS_VERSION: u64 = 3;
 
 /// Adds the class of a workunit, at its place in order of number. The table's key refuses a number that is there, and
 /// its reference one that no workunit has.
@@ -36,11 +37,7 @@ pub fn insert_class<S: Alter>(
     ensures spares { Does S.Store tx.old tx.new result (Spares workunit_class_table) }
 {
     let workunit = signed(workunit)?;
-    execute(
-        tx,
-        "INSERT INTO workunit_class (workunit, class) VALUES (?1, ?2)",
-        params![workunit, class],
-    )
+    execute(tx, INSERT_CLASS, params![workunit, class])
 }
 
 /// Adds class 0 for the workunit of each of these rows to tables of classes that have none, in their order.
@@ -95,11 +92,7 @@ pub fn set_class<S: Alter>(
     ensures spares { Does S.Store tx.old tx.new result (Spares workunit_class_table) }
 {
     let workunit = signed(workunit)?;
-    execute(
-        tx,
-        "UPDATE workunit_class SET class = ?2 WHERE workunit = ?1",
-        params![workunit, class],
-    )
+    execute(tx, UPDATE_CLASS, params![workunit, class])
 }
 
 /// Sets the class of a host: deletes its row, if it has one, and adds a new one.
@@ -118,16 +111,8 @@ pub fn put_host_class<S: Alter>(
     // After `Ok`, if its table is there, the tables of other programs stay.
     ensures spares { Does S.Store tx.old tx.new result (Spares host_class_table) }
 {
-    execute(
-        tx,
-        "DELETE FROM host_class WHERE host = ?1",
-        params![host.as_str()],
-    )?;
-    execute(
-        tx,
-        "INSERT INTO host_class (host, class) VALUES (?1, ?2)",
-        params![host.as_str(), class],
-    )
+    execute(tx, DELETE_HOST_CLASS, params![host.as_str()])?;
+    execute(tx, INSERT_HOST_CLASS, params![host.as_str(), class])
 }
 
 /// Returns the class of the workunit of this number, or `None` if it is not there.
@@ -154,11 +139,7 @@ pub fn class_of_workunit<S: Alter>(
         → NotRefusedClass S.Store conn.old conn.new result (LoadsClass number) }
 {
     let key = key_of(number)?;
-    let row = ask_row(
-        conn,
-        "SELECT class FROM workunit_class WHERE workunit = ?1",
-        params![key],
-    )?;
+    let row = ask_row(conn, SELECT_CLASS, params![key])?;
     match row {
         Some(row) => Ok(Some(class_at(&row, 0)?)),
         None => Ok(None),
@@ -182,11 +163,7 @@ pub fn class_of<S: Alter>(conn: &mut Connection<S>, host: &Name) -> Result<u32, 
     ensures unrefused { NotRefusedClass S.Store conn.old conn.new result
         (LoadsHostClass host.now) }
 {
-    let row = ask_row(
-        conn,
-        "SELECT class FROM host_class WHERE host = ?1",
-        params![host.as_str()],
-    )?;
+    let row = ask_row(conn, SELECT_HOST_CLASS, params![host.as_str()])?;
     match row {
         Some(row) => class_at(&row, 0),
         None => Ok(0),

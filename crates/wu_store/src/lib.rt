@@ -14,6 +14,7 @@ pub mod laws;
 mod loading;
 mod sets;
 mod statements;
+mod texts;
 mod verdicts;
 
 pub use changes::{Change, HostSum, Import, apply};

@@ -11,6 +11,10 @@ ghost use Rattle.wu_core.specs.Storable.{AreStoredInstances, IsNextNumber, Loads
 
 use crate::classes::class_of_workunit;
 use crate::statements::{ask_row, key_of};
+use crate::texts::{
+    SELECT_ABOVE, SELECT_IMPORT, SELECT_INSTANCES, SELECT_LAST_ARCHIVED, SELECT_LAST_GRANT,
+    SELECT_NAMED, SELECT_NEXT_NUMBER, SELECT_NUMBERED,
+};
 use sqlite::{Alter, Connection, Row, params};
 use std::alloc::Global;
 use wu_core::{Fault, ImportKind, Instances, MOST_INSTANCES, Name, Workunit};
@@ -53,11 +57,7 @@ fn instances_of<S: Alter>(
     ensures unrefused { NotRefusedIn S.Store conn.old conn.new result (LoadsInstances workunit) }
 {
     let key = key_of(workunit)?;
-    let rows = query(
-        conn,
-        "SELECT server_state, outcome, validate_state, file_delete, host, sent_at, deadline, received_at, output FROM result WHERE workunit = ?1 ORDER BY n",
-        params![key],
-    )?;
+    let rows = query(conn, SELECT_INSTANCES, params![key])?;
     instances_from(alloc, &rows)
 }
 
@@ -127,11 +127,7 @@ fn numbered_row<S: Alter>(conn: &mut Connection<S>, number: u64) -> Result<Optio
     ensures unrefused { NotRefusedIn S.Store conn.old conn.new result (λ _. number < 2 ^ 63) }
 {
     let key = key_of(number)?;
-    ask_row(
-        conn,
-        "SELECT number, name, min_quorum, target_nresults, max_error_results, max_total_results, max_success_results, delay_bound, credit, input, error_mask, canonical, assimilate, file_delete, done_at FROM workunit WHERE number = ?1",
-        params![key],
-    )
+    ask_row(conn, SELECT_NUMBERED, params![key])
 }
 
 /// Returns the workunit of this number, with its class and its instances, or `None` if there is none.
@@ -219,11 +215,7 @@ pub fn load_above<S: Alter>(
     ensures unrefused { NotRefusedIn S.Store conn.old conn.new result (LoadsAbove number) }
 {
     let key = key_of(number)?;
-    let row = ask_row(
-        conn,
-        "SELECT number, name, min_quorum, target_nresults, max_error_results, max_total_results, max_success_results, delay_bound, credit, input, error_mask, canonical, assimilate, file_delete, done_at FROM workunit WHERE number > ?1 ORDER BY number LIMIT 1",
-        params![key],
-    )?;
+    let row = ask_row(conn, SELECT_ABOVE, params![key])?;
     loaded(conn, alloc, row)
 }
 
@@ -250,11 +242,7 @@ pub fn load_named<S: Alter>(
     // `NotAProject` is not returned.
     ensures unrefused { NotRefusedIn S.Store conn.old conn.new result (LoadsNamed name.now) }
 {
-    let row = ask_row(
-        conn,
-        "SELECT number, name, min_quorum, target_nresults, max_error_results, max_total_results, max_success_results, delay_bound, credit, input, error_mask, canonical, assimilate, file_delete, done_at FROM workunit WHERE name = ?1",
-        params![name.as_str()],
-    )?;
+    let row = ask_row(conn, SELECT_NAMED, params![name.as_str()])?;
     whole(conn, alloc, row)
 }
 
@@ -279,11 +267,7 @@ pub fn import_of<S: Alter>(
     // steps, `NotAProject` is not returned.
     ensures unrefused { NotRefusedIn S.Store conn.old conn.new result (LoadsImport kind name.now) }
 {
-    let rows = query(
-        conn,
-        "SELECT template, content, first_number, verdicts FROM import WHERE kind = ?1 AND name = ?2",
-        params![kind.code(), name.as_str()],
-    )?;
+    let rows = query(conn, SELECT_IMPORT, params![kind.code(), name.as_str()])?;
     match rows.first() {
         Some(row) => Ok(Some(import_from(alloc, kind, row)?)),
         None => Ok(None),
@@ -308,7 +292,7 @@ pub fn next_number<S: Alter>(conn: &mut Connection<S>) -> Result<u64, Fault>
     // returned.
     ensures unrefused { NotRefusedIn S.Store conn.old conn.new result LoadsNext }
 {
-    let row = ask_row(conn, "SELECT next_number FROM project", &[])?;
+    let row = ask_row(conn, SELECT_NEXT_NUMBER, &[])?;
     match row {
         Some(row) => next_number_from(&row),
         None => Err(Fault::NotAProject),
@@ -352,11 +336,7 @@ pub fn next_grant_place<S: Alter>(conn: &mut Connection<S>) -> Result<u64, Fault
     // Over a represented world, with no limit on steps, `NotAProject` is not returned.
     ensures unrefused { NotRefusedIn S.Store conn.old conn.new result (λ _. ⊤) }
 {
-    let last = ask_row(
-        conn,
-        "SELECT seq FROM credit_grant ORDER BY seq DESC LIMIT 1",
-        &[],
-    )?;
+    let last = ask_row(conn, SELECT_LAST_GRANT, &[])?;
     place_behind(last)
 }
 
@@ -376,10 +356,6 @@ pub fn next_archived_place<S: Alter>(conn: &mut Connection<S>) -> Result<u64, Fa
     // Over a represented world, with no limit on steps, `NotAProject` is not returned.
     ensures unrefused { NotRefusedIn S.Store conn.old conn.new result (λ _. ⊤) }
 {
-    let last = ask_row(
-        conn,
-        "SELECT seq FROM archived ORDER BY seq DESC LIMIT 1",
-        &[],
-    )?;
+    let last = ask_row(conn, SELECT_LAST_ARCHIVED, &[])?;
     place_behind(last)
 }

@@ -8,6 +8,7 @@ ghost use Rattle.wu_store.specs.Changes.{InstanceLeavesMarks, LeavesMarks, SetsI
 ghost use Rattle.wu_store.specs.Queues.{ChangesQueue, KeepsWorld, with_set_marks};
 
 use crate::statements::{run_instance, run_marks, run_workunit};
+use crate::texts::{UPDATE_MARKS, UPDATE_RESULT, UPDATE_WORKUNIT};
 use sqlite::{Alter, Error, Transaction};
 use wu_core::{Instance, Marks, Workunit};
 
@@ -24,11 +25,7 @@ pub fn set_workunit<S: Alter>(tx: &mut Transaction<'_, S>, workunit: &Workunit) 
     // After `Ok`, if its table is there, the tables of other programs stay.
     ensures spares { Does S.Store tx.old tx.new result (Spares workunit_table) }
 {
-    run_workunit(
-        tx,
-        "UPDATE workunit SET name = ?2, min_quorum = ?3, target_nresults = ?4, max_error_results = ?5, max_total_results = ?6, max_success_results = ?7, delay_bound = ?8, credit = ?9, input = ?10, error_mask = ?11, canonical = ?12, assimilate = ?13, file_delete = ?14, done_at = ?15 WHERE number = ?1",
-        workunit,
-    )
+    run_workunit(tx, UPDATE_WORKUNIT, workunit)
 }
 
 /// Sets the row of an instance by its workunit's number and its own.
@@ -50,13 +47,7 @@ pub fn set_instance<S: Alter>(
     // After `Ok`, if its table is there, the tables of other programs stay.
     ensures spares { Does S.Store tx.old tx.new result (Spares result_table) }
 {
-    run_instance(
-        tx,
-        "UPDATE result SET server_state = ?3, outcome = ?4, validate_state = ?5, file_delete = ?6, host = ?7, sent_at = ?8, deadline = ?9, received_at = ?10, output = ?11 WHERE workunit = ?1 AND n = ?2",
-        workunit,
-        n,
-        instance,
-    )
+    run_instance(tx, UPDATE_RESULT, workunit, n, instance)
 }
 
 /// Sets the marks of a workunit in the queue.
@@ -77,10 +68,5 @@ pub fn set_marks<S: Alter>(
     // After `Ok`, if its table is there, the tables of other programs stay.
     ensures spares { Does S.Store tx.old tx.new result (Spares queue_table) }
 {
-    run_marks(
-        tx,
-        "UPDATE queue SET wake = ?2, to_validate = ?3, to_assimilate = ?4, to_delete = ?5, purge_from = ?6 WHERE workunit = ?1",
-        workunit,
-        marks,
-    )
+    run_marks(tx, UPDATE_MARKS, workunit, marks)
 }

@@ -18,6 +18,12 @@ ghost use Rattle.wu_store.specs.Answers.{has_name, ShowsLast, was_archived};
 
 use crate::changes::{HostSum, Import};
 use crate::classes::insert_class;
+use crate::texts::{
+    DELETE_WORKUNIT, INSERT_ARCHIVED, INSERT_GRANT, INSERT_IMPORT, INSERT_MARKS, INSERT_RESULT,
+    INSERT_WORKUNIT, SELECT_ARCHIVED, SELECT_NUMBER, SELECT_TO_ASSIMILATE, SELECT_TO_DELETE,
+    SELECT_TO_PURGE, SELECT_TO_VALIDATE, SELECT_TO_WAKE, UPDATE_NEXT_NUMBER, UPDATE_VERSION,
+    UPSERT_HOST,
+};
 use sqlite::types::ValueRef;
 use sqlite::{Alter, Connection, Error, Row, Transaction, params};
 use wu_core::{Archived, Deadline, Fault, Grant, Instance, Marks, Moment, Name, Workunit};
@@ -136,11 +142,7 @@ pub fn has_workunit<S: Alter>(conn: &mut Connection<S>, name: &Name) -> Result<b
     // Over a represented world, with no limit on steps, `NotAProject` is not returned.
     ensures unrefused { NotRefusedIn S.Store conn.old conn.new result (λ _. ⊤) }
 {
-    let rows = query(
-        conn,
-        "SELECT number FROM workunit WHERE name = ?1",
-        params![name.as_str()],
-    )?;
+    let rows = query(conn, SELECT_NUMBER, params![name.as_str()])?;
     Ok(!rows.is_empty())
 }
 
@@ -159,11 +161,7 @@ pub fn has_archived<S: Alter>(conn: &mut Connection<S>, name: &Name) -> Result<b
     // Over a represented world, with no limit on steps, `NotAProject` is not returned.
     ensures unrefused { NotRefusedIn S.Store conn.old conn.new result (λ _. ⊤) }
 {
-    let rows = query(
-        conn,
-        "SELECT number FROM archived WHERE name = ?1",
-        params![name.as_str()],
-    )?;
+    let rows = query(conn, SELECT_ARCHIVED, params![name.as_str()])?;
     Ok(!rows.is_empty())
 }
 
@@ -173,20 +171,11 @@ fn marked_text(pass: Pass) -> &'static str
     ensures { result.now ≡ marked_text pass }
 {
     match pass {
-        Pass::Transition => {
-            "SELECT workunit FROM queue WHERE wake >= ?1 AND wake <= ?2 ORDER BY workunit LIMIT ?3"
-        }
-        Pass::Validate => {
-            "SELECT workunit FROM queue WHERE to_validate = ?1 ORDER BY workunit LIMIT ?2"
-        }
-        Pass::Assimilate => {
-            "SELECT workunit FROM queue WHERE to_assimilate = ?1 ORDER BY workunit LIMIT ?2"
-        }
-        Pass::Delete =>
-            "SELECT workunit FROM queue WHERE to_delete = ?1 ORDER BY workunit LIMIT ?2",
-        Pass::Purge => {
-            "SELECT workunit FROM queue WHERE purge_from >= ?1 AND purge_from <= ?2 ORDER BY workunit LIMIT ?3"
-        }
+        Pass::Transition => { SELECT_TO_WAKE }
+        Pass::Validate => { SELECT_TO_VALIDATE }
+        Pass::Assimilate => { SELECT_TO_ASSIMILATE }
+        Pass::Delete => SELECT_TO_DELETE,
+        Pass::Purge => { SELECT_TO_PURGE }
     }
 }
 
@@ -283,11 +272,7 @@ pub fn insert_workunit<S: Alter>(
     // After `Ok`, if the tables of workunits are there, those of other programs stay.
     ensures spares { Does S.Store tx.old tx.new result (SparesWith tables_of_workunits) }
 {
-    run_workunit(
-        tx,
-        "INSERT INTO workunit (number, name, min_quorum, target_nresults, max_error_results, max_total_results, max_success_results, delay_bound, credit, input, error_mask, canonical, assimilate, file_delete, done_at) VALUES (?1, ?2, ?3, ?4, ?5, ?6, ?7, ?8, ?9, ?10, ?11, ?12, ?13, ?14, ?15)",
-        workunit,
-    )?;
+    run_workunit(tx, INSERT_WORKUNIT, workunit)?;
     insert_class(tx, workunit.number, workunit.class)
 }
 
@@ -348,13 +333,7 @@ pub fn insert_instance<S: Alter>(
     // After `Ok`, if its table is there, the tables of other programs stay.
     ensures spares { Does S.Store tx.old tx.new result (Spares result_table) }
 {
-    run_instance(
-        tx,
-        "INSERT INTO result (workunit, n, server_state, outcome, validate_state, file_delete, host, sent_at, deadline, received_at, output) VALUES (?1, ?2, ?3, ?4, ?5, ?6, ?7, ?8, ?9, ?10, ?11)",
-        workunit,
-        n,
-        instance,
-    )
+    run_instance(tx, INSERT_RESULT, workunit, n, instance)
 }
 
 /// Deletes the workunit of this number, if there is one, with its instances and its marks in the queue.
@@ -373,11 +352,7 @@ pub fn delete_workunit<S: Alter>(tx: &mut Transaction<'_, S>, number: u64) -> Re
     ensures spares { Does S.Store tx.old tx.new result (Spares workunit_table) }
 {
     let number = signed(number)?;
-    execute(
-        tx,
-        "DELETE FROM workunit WHERE number = ?1",
-        params![number],
-    )
+    execute(tx, DELETE_WORKUNIT, params![number])
 }
 
 /// Adds the row of a grant at the next place of those that are there. The sums of its host stay.
@@ -400,7 +375,7 @@ pub fn insert_grant<S: Alter>(
     let credit = signed(grant.credit)?;
     execute(
         tx,
-        "INSERT INTO credit_grant (seq, workunit, n, host, credit) VALUES (?1, ?2, ?3, ?4, ?5)",
+        INSERT_GRANT,
         params![seq, workunit, grant.n, grant.host.as_str(), credit],
     )
 }
@@ -416,11 +391,7 @@ pub fn add_sum<S: Alter>(tx: &mut Transaction<'_, S>, sum: &HostSum) -> Result<(
 {
     let total = signed(sum.total)?;
     let grants = signed(sum.grants)?;
-    execute(
-        tx,
-        "INSERT INTO host (name, total, grants) VALUES (?1, ?2, ?3) ON CONFLICT (name) DO UPDATE SET total = total + excluded.total, grants = grants + excluded.grants",
-        params![sum.name.as_str(), total, grants],
-    )
+    execute(tx, UPSERT_HOST, params![sum.name.as_str(), total, grants])
 }
 
 /// Adds the row of an archived workunit, at the next place of those that are there.
@@ -445,7 +416,7 @@ pub fn insert_archived<S: Alter>(
     let done_at = seconds(archived.done_at);
     execute(
         tx,
-        "INSERT INTO archived (seq, number, name, error_mask, canonical, output, done_at) VALUES (?1, ?2, ?3, ?4, ?5, ?6, ?7)",
+        INSERT_ARCHIVED,
         params![
             seq,
             number,
@@ -479,7 +450,7 @@ pub fn insert_import<S: Alter>(
     let first_number = signed(import.first_number)?;
     execute(
         tx,
-        "INSERT INTO import (kind, name, template, content, first_number, verdicts) VALUES (?1, ?2, ?3, ?4, ?5, ?6)",
+        INSERT_IMPORT,
         params![
             import.kind.code(),
             import.name.as_str(),
@@ -541,12 +512,7 @@ pub fn insert_marks<S: Alter>(
     // After `Ok`, if its table is there, the tables of other programs stay.
     ensures spares { Does S.Store tx.old tx.new result (Spares queue_table) }
 {
-    run_marks(
-        tx,
-        "INSERT INTO queue (workunit, wake, to_validate, to_assimilate, to_delete, purge_from) VALUES (?1, ?2, ?3, ?4, ?5, ?6)",
-        workunit,
-        marks,
-    )
+    run_marks(tx, INSERT_MARKS, workunit, marks)
 }
 
 /// Sets the project's next number.
@@ -562,11 +528,7 @@ pub fn set_next_number<S: Alter>(tx: &mut Transaction<'_, S>, next_number: u64) 
     ensures spares { Does S.Store tx.old tx.new result (Spares project_table) }
 {
     let next_number = signed(next_number)?;
-    execute(
-        tx,
-        "UPDATE project SET next_number = ?1",
-        params![next_number],
-    )
+    execute(tx, UPDATE_NEXT_NUMBER, params![next_number])
 }
 
 /// Sets the version of the project's schema.
@@ -583,5 +545,5 @@ pub fn set_version<S: Alter>(tx: &mut Transaction<'_, S>, version: u64) -> Resul
     ensures spares { Does S.Store tx.old tx.new result (Spares project_table) }
 {
     let version = signed(version)?;
-    execute(tx, "UPDATE project SET version = ?1", params![version])
+    execute(tx, UPDATE_VERSION, params![version])
 }

@@ -8,6 +8,7 @@ ghost use Rattle.wu_tables.specs.Known.{IsTableOf, name_of, table_at};
 use crate::forms::ColumnForm::{May, Needs};
 use crate::forms::{ReferenceForm, TableForm};
 use sqlite_schema::schema::Kind::{Blob, Integer, Text};
+use wu_core::CLASS_VERSION;
 
 /// A table of a project, the queue aside.
 #[derive(Clone, Copy, PartialEq, Eq)]
@@ -22,9 +23,6 @@ pub enum ProjectTable {
     HostClass,
     WorkunitClass,
 }
-
-/// The first version that has classes.
-const CLASS_VERSION: u64 = 3;
 
 const PROJECT: TableForm = TableForm {
     name: "project",

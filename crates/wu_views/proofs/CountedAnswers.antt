@@ -14,6 +14,7 @@ use Rattle.wu_store.proofs.AskLemmas.{IsQuestion, question}
 use Rattle.wu_store.proofs.ReadAnswers.{asked_rows}
 use Rattle.wu_views.specs.Counting.{IsCount, all_states, class_count, import_count, workunit_count}
 use Rattle.wu_views.proofs.CountLemmas.{credit_cell, first_cells}
+use Rattle.wu_views.specs.declared.texts.TheConstants.{COUNT_CLASSES, COUNT_IMPORTS, COUNT_WORKUNITS, SELECT_CREDIT, SELECT_STATES}
 
 -- a SELECT that counts with no test
 abbrev pub counting : List ℕ → Counted
@@ -21,15 +22,15 @@ counting text = record { text = text; parameters = []; tests = [] }
 
 -- ---- all of a part
 
-pub workunits_fit : (tree : ℕ) → CountFits (codes "workunit_class") (workunit_class_at tree) (counting (codes "SELECT count(*) FROM workunit_class")) None
+pub workunits_fit : (tree : ℕ) → CountFits (codes "workunit_class") (workunit_class_at tree) (counting COUNT_WORKUNITS.now) None
 unfolding everything
 workunits_fit tree = record { found = tt; tests = refl; strict = refl; height = (0, tt); few = omega arith; read = refl; typed = refl }
 
-pub imports_fit : (tree : ℕ) → CountFits (codes "import") (import_at tree) (counting (codes "SELECT count(*) FROM import")) None
+pub imports_fit : (tree : ℕ) → CountFits (codes "import") (import_at tree) (counting COUNT_IMPORTS.now) None
 unfolding everything
 imports_fit tree = record { found = tt; tests = refl; strict = refl; height = (0, tt); few = omega arith; read = refl; typed = refl }
 
-pub classes_fit : (tree : ℕ) → CountFits (codes "host_class") (host_class_at tree) (counting (codes "SELECT count(*) FROM host_class")) None
+pub classes_fit : (tree : ℕ) → CountFits (codes "host_class") (host_class_at tree) (counting COUNT_CLASSES.now) None
 unfolding everything
 classes_fit tree = record { found = tt; tests = refl; strict = refl; height = (0, tt); few = omega arith; read = refl; typed = refl }
 
@@ -37,22 +38,22 @@ module _ (old new : State) (world : World) (s : Refines old.now world) (rows : L
   part_counted : (p : Part) → IsIn p world.version → (text : List ℕ) → ((tree : ℕ) → CountFits (name_of p) (table_in p tree) (counting text) None) → Shown text [] old new rows → IsCount rows (length (old.now.trees (table_in p (tree_in s.trees p)).tree))
   part_counted p is_in text fits h = let has = parts_there old.now world s p is_in in (all_counted (name_of p) has.0 (table_in p (tree_in s.trees p)) (counting text) old new has.1 [] rows (fits _) h).one ∙ ap (λ rs. (count (length rs) ∷ []) ∷ []) (no_test _)
 
-  pub workunits_counted : KnowsClasses world → Shown (codes "SELECT count(*) FROM workunit_class") [] old new rows → IsCount rows (workunit_count world)
+  pub workunits_counted : KnowsClasses world → Shown COUNT_WORKUNITS.now [] old new rows → IsCount rows (workunit_count world)
   workunits_counted known h =
       part_counted WorkClasses known _ workunits_fit h ∙ ap (λ n. (count n ∷ []) ∷ []) (ap (λ rs. length rs) (s.rows.classes known).workunits.same ∙ length-map world.workunits _)
 
-  pub imports_counted : Shown (codes "SELECT count(*) FROM import") [] old new rows → IsCount rows (import_count world)
+  pub imports_counted : Shown COUNT_IMPORTS.now [] old new rows → IsCount rows (import_count world)
   imports_counted h =
       part_counted Imports tt _ imports_fit h ∙ ap (λ n. (count n ∷ []) ∷ []) (sym (length-map (old.now.trees s.trees.import) (drop 1)) ∙ length_permutation _ _ s.rows.imports.same ∙ length-map world.imports _)
 
-  pub classes_counted : KnowsClasses world → Shown (codes "SELECT count(*) FROM host_class") [] old new rows → IsCount rows (class_count world)
+  pub classes_counted : KnowsClasses world → Shown COUNT_CLASSES.now [] old new rows → IsCount rows (class_count world)
   classes_counted known h =
       part_counted HostClasses known _ classes_fit h ∙ ap (λ n. (count n ∷ []) ∷ []) (sym (length-map (old.now.trees s.trees.host_class) (drop 1)) ∙ length_permutation _ _ (s.rows.classes known).hosts.same ∙ length-map world.classes _)
 
 -- ---- the states of instances
 
 abbrev pub states_asked : Asked
-states_asked = record { text = codes "SELECT server_state FROM result"; parameters = []; shown = 2 ∷ []; tests = []; order = []; limit = None; upto = lit (Int (negsuc 0)) }
+states_asked = record { text = SELECT_STATES.now; parameters = []; shown = 2 ∷ []; tests = []; order = []; limit = None; upto = lit (Int (negsuc 0)) }
 
 pub states_fit : (tree : ℕ) → Fits (codes "result") (result_at tree) states_asked
 unfolding everything
@@ -88,7 +89,7 @@ states_of (w ∷ ws) =
 -- ---- the credit of grants
 
 abbrev pub credit_asked : Asked
-credit_asked = record { text = codes "SELECT credit FROM credit_grant"; parameters = []; shown = 4 ∷ []; tests = []; order = []; limit = None; upto = lit (Int (negsuc 0)) }
+credit_asked = record { text = SELECT_CREDIT.now; parameters = []; shown = 4 ∷ []; tests = []; order = []; limit = None; upto = lit (Int (negsuc 0)) }
 
 pub credit_fits : (tree : ℕ) → Fits (codes "credit_grant") (grant_at tree) credit_asked
 unfolding everything

@@ -23,6 +23,7 @@ use Rattle.wu_store.specs.StandsFor.{KnowsClasses}
 use Rattle.wu_store.proofs.ClassAnswers.{IsClassQuestion}
 use Rattle.wu_views.proofs.JoinLemmas.{AskedOfTwo, FitsTwo, Item, accepts_two, cell_lowers, compiles_two, length_of, met, names_of, never_over_two, own, outputs_of, parsed_of, plain, scope_of_two, select_of, told}
 pub use Rattle.wu_views.proofs.JoinLemmas.{joined_query}
+use Rattle.wu_views.specs.declared.texts.TheConstants.{LIST_RESULTS, LIST_WORKUNITS}
 
 -- rising by a column of the first table
 abbrev pub rising_by : ℕ → Term × Key
@@ -30,11 +31,11 @@ rising_by place = (col 1 place, record { collation = Binary; descending = false 
 
 -- each workunit with its class, and its input as a length alone
 abbrev pub workunits_text : List ℕ
-workunits_text = codes "SELECT number, name, min_quorum, target_nresults, max_error_results, max_total_results, max_success_results, delay_bound, credit, length(input), error_mask, canonical, assimilate, file_delete, done_at, class FROM workunit, workunit_class WHERE workunit = number ORDER BY number"
+workunits_text = LIST_WORKUNITS.now
 
 -- each instance with the name of its workunit, and its output as a length alone
 abbrev pub results_text : List ℕ
-results_text = codes "SELECT server_state, outcome, validate_state, result.file_delete, host, sent_at, deadline, received_at, n, name, length(output) FROM result, workunit WHERE number = workunit ORDER BY workunit, n"
+results_text = LIST_RESULTS.now
 
 -- the class is that of the workunit
 abbrev pub workunits_tests : List Term

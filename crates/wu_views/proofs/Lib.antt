@@ -14,3 +14,4 @@ mod ListAnswers
 mod ListLines
 mod WalkLemmas
 mod CountWalks
+pub mod WaitingLemmas

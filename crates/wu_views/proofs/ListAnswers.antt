@@ -22,6 +22,7 @@ use Rattle.wu_views.proofs.JoinAnswers as joins
 use Rattle.wu_views.proofs.JoinTexts.{results_here, results_question, results_text, workunits_here, workunits_question, workunits_text}
 use Rattle.wu_views.proofs.ListLemmas.{AnswersAll, answers_all}
 use Rattle.wu_views.proofs.ViewAnswers.{host_pair, host_shows, names_rise, names_shown}
+use Rattle.wu_views.specs.declared.texts.TheConstants.{LIST_ARCHIVE, LIST_CLASSES, LIST_HOSTS, LIST_IMPORTS}
 
 -- no limit
 abbrev no_limit : Term
@@ -57,7 +58,7 @@ module _ {X : Type 0} (tree : ℕ) (shows : List Term) (place : ℕ) (cells : X 
 -- ---- hosts, in order of their names
 
 abbrev pub hosts_asked : Asked
-hosts_asked = record { text = codes "SELECT name, total, grants FROM host ORDER BY name"; parameters = []; shown = 0 ∷ 1 ∷ 2 ∷ []; tests = []; order = 0 ∷ []; limit = None; upto = lit (Int (negsuc 0)) }
+hosts_asked = record { text = LIST_HOSTS.now; parameters = []; shown = 0 ∷ 1 ∷ 2 ∷ []; tests = []; order = 0 ∷ []; limit = None; upto = lit (Int (negsuc 0)) }
 
 hosts_fits : (tree : ℕ) → Fits (codes "host") (host_at tree) hosts_asked
 unfolding everything
@@ -83,7 +84,7 @@ hosts_answer = answers_all Hosts (λ version known. tt) hosts_asked hosts_fits r
 -- ---- the archive, in order of archiving
 
 abbrev pub archive_asked : Asked
-archive_asked = record { text = codes "SELECT seq, number, name, error_mask, canonical, output, done_at FROM archived ORDER BY seq"; parameters = []; shown = 0 ∷ 1 ∷ 2 ∷ 3 ∷ 4 ∷ 5 ∷ 6 ∷ []; tests = []; order = 0 ∷ []; limit = None; upto = lit (Int (negsuc 0)) }
+archive_asked = record { text = LIST_ARCHIVE.now; parameters = []; shown = 0 ∷ 1 ∷ 2 ∷ 3 ∷ 4 ∷ 5 ∷ 6 ∷ []; tests = []; order = 0 ∷ []; limit = None; upto = lit (Int (negsuc 0)) }
 
 archive_fits : (tree : ℕ) → Fits (codes "archived") (archived_at tree) archive_asked
 unfolding everything
@@ -109,7 +110,7 @@ archive_answer = answers_all Archive (λ version known. tt) archive_asked archiv
 -- ---- the classes of hosts, in order of their names
 
 abbrev pub classes_asked : Asked
-classes_asked = record { text = codes "SELECT host, class FROM host_class ORDER BY host"; parameters = []; shown = 0 ∷ 1 ∷ []; tests = []; order = 0 ∷ []; limit = None; upto = lit (Int (negsuc 0)) }
+classes_asked = record { text = LIST_CLASSES.now; parameters = []; shown = 0 ∷ 1 ∷ []; tests = []; order = 0 ∷ []; limit = None; upto = lit (Int (negsuc 0)) }
 
 classes_fits : (tree : ℕ) → Fits (codes "host_class") (host_class_at tree) classes_asked
 unfolding everything
@@ -152,7 +153,7 @@ classes_answer = answers_all HostClasses (λ version known. known) classes_asked
 -- ---- imports, in order of their kinds and names
 
 abbrev pub imports_asked : Asked
-imports_asked = record { text = codes "SELECT kind, name, first_number, verdicts FROM import ORDER BY kind, name"; parameters = []; shown = 0 ∷ 1 ∷ 4 ∷ 5 ∷ []; tests = []; order = 0 ∷ 1 ∷ []; limit = None; upto = lit (Int (negsuc 0)) }
+imports_asked = record { text = LIST_IMPORTS.now; parameters = []; shown = 0 ∷ 1 ∷ 4 ∷ 5 ∷ []; tests = []; order = 0 ∷ 1 ∷ []; limit = None; upto = lit (Int (negsuc 0)) }
 
 imports_fits : (tree : ℕ) → Fits (codes "import") (import_at tree) imports_asked
 unfolding everything

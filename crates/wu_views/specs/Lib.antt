@@ -3,4 +3,5 @@ pub mod Imports
 pub mod Lines
 pub mod Listings
 pub mod Summaries
+pub mod Waiting
 pub mod Walking

@@ -1,5 +1,5 @@
 -- What the summary counts of a world, part by part, and when it can be read.
-use Rattle.std.specs.Prelude.{◌≡◌, ℕ, ◌+◌, ◌≤◌, ◌<◌, ◌^◌, List, [], ◌∷◌, ◌++◌, codes, count_by, length, map, sum, sum_by, Result, IfOk}
+use Rattle.std.specs.Prelude.{◌≡◌, ℕ, ◌+◌, ◌≤◌, ◌<◌, ◌^◌, List, [], ◌∷◌, ◌++◌, count_by, length, map, sum, sum_by, Result, IfOk}
 use Rattle.sqlite.specs.Held.{Held, state}
 use Rattle.sqlite.specs.Order.{Row, column}
 use Rattle.sqlite.specs.State.{HasCleanDisk, Shown, State}
@@ -18,6 +18,7 @@ use Rattle.wu_views.specs.declared.counts.Numbers.{Numbers}
 use Rattle.wu_views.specs.declared.counts.Others.{Others}
 use Rattle.wu_views.specs.declared.counts.Results.{Results}
 use Rattle.wu_views.specs.declared.lines.Summary.{Summary}
+use Rattle.wu_views.specs.declared.texts.TheConstants.{SELECT_CREDIT, SELECT_STATES}
 
 -- The numbers of the project's row.
 abbrev pub project_numbers : World → Numbers
@@ -47,7 +48,7 @@ AddsState so_far state found = (states : List ServerState) → so_far ≡ counts
 -- each state. So no row is left out, whatever the tables hold.
 pub record CountsStates (old new : State) (results : Results) : Type 0 where
   pub rows : List Row
-  pub shown : Shown (codes "SELECT server_state FROM result") [] old new rows
+  pub shown : Shown SELECT_STATES.now [] old new rows
   pub states : List ServerState
   pub read : map (λ row. column row 0) rows ≡ map server_state_cell states
   pub counted : results ≡ counts_of states
@@ -85,7 +86,7 @@ FindsAt of result world = IfOk result (λ found. found ≡ of world)
 -- whatever the tables hold.
 pub record CountsCredit (old new : State) (granted : Granted) : Type 0 where
   pub rows : List Row
-  pub shown : Shown (codes "SELECT credit FROM credit_grant") [] old new rows
+  pub shown : Shown SELECT_CREDIT.now [] old new rows
   pub credits : List ℕ
   pub read : map (λ row. column row 0) rows ≡ map number credits
   pub counted : granted ≡ record { grants = length credits; credit = sum credits }

@@ -9,6 +9,7 @@ ghost use Rattle.wu_store.specs.Loading.{Asks, IsStoreFault, NotRefusedIn, ForEa
 
 use crate::lines::Summary;
 use crate::questions::ask_count;
+use crate::texts::{COUNT_CLASSES, COUNT_IMPORTS, COUNT_WORKUNITS, SELECT_CREDIT, SELECT_STATES};
 use sqlite::{Alter, Connection};
 use wu_core::{Fault, ServerState};
 use wu_schema::rows::server_state_at;
@@ -24,7 +25,7 @@ fn count_workunits<S: Alter>(conn: &mut Connection<S>) -> Result<u64, Fault>
     ensures found { ForEachClassed S.Store conn.old conn.new (FindsAt workunit_count result) }
     ensures unrefused { NotRefusedClass S.Store conn.old conn.new result (λ _. ⊤) }
 {
-    ask_count(conn, "SELECT count(*) FROM workunit_class", &[])
+    ask_count(conn, COUNT_WORKUNITS, &[])
 }
 
 /// Returns how many files were imported, each once.
@@ -35,7 +36,7 @@ fn count_imports<S: Alter>(conn: &mut Connection<S>) -> Result<u64, Fault>
     ensures found { ForEachWorld S.Store conn.old conn.new (FindsAt import_count result) }
     ensures unrefused { NotRefusedIn S.Store conn.old conn.new result (λ _. ⊤) }
 {
-    ask_count(conn, "SELECT count(*) FROM import", &[])
+    ask_count(conn, COUNT_IMPORTS, &[])
 }
 
 /// Returns how many hosts have a class.
@@ -46,7 +47,7 @@ fn count_classes<S: Alter>(conn: &mut Connection<S>) -> Result<u64, Fault>
     ensures found { ForEachClassed S.Store conn.old conn.new (FindsAt class_count result) }
     ensures unrefused { NotRefusedClass S.Store conn.old conn.new result (λ _. ⊤) }
 {
-    ask_count(conn, "SELECT count(*) FROM host_class", &[])
+    ask_count(conn, COUNT_CLASSES, &[])
 }
 
 /// How many instances there are, and how many in each state.
@@ -109,7 +110,7 @@ fn count_results<S: Alter>(conn: &mut Connection<S>) -> Result<Results, Fault>
         in_progress: 0,
         over: 0,
     };
-    let mut rows = match conn.query("SELECT server_state FROM result", &[]) {
+    let mut rows = match conn.query(SELECT_STATES, &[]) {
         Ok(rows) => rows,
         Err(error) => return Err(fault_of(&error)),
     };
@@ -190,7 +191,7 @@ fn count_grants<S: Alter>(conn: &mut Connection<S>) -> Result<Granted, Fault>
 {
     let mut grants = 0;
     let mut credit = 0u64;
-    let mut rows = match conn.query("SELECT credit FROM credit_grant", &[]) {
+    let mut rows = match conn.query(SELECT_CREDIT, &[]) {
         Ok(rows) => rows,
         Err(error) => return Err(fault_of(&error)),
     };

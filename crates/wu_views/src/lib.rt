@@ -8,6 +8,8 @@ mod counts;
 mod lines;
 mod listings;
 mod questions;
+mod texts;
+mod waiting;
 mod walking;
 
 pub use counts::summary;
@@ -16,4 +18,5 @@ pub use listings::{
     ArchiveListing, ClassListing, HostListing, ImportListing, Listing, ResultListing,
     WorkunitListing,
 };
+pub use waiting::{DueLine, due_lines};
 pub use walking::{Takes, walk};

@@ -16,14 +16,14 @@ use crate::project::Project;
 use crate::version::known_version;
 use sqlite::{Alter, Connection};
 use std::alloc::Global;
-use wu_core::Fault;
+use wu_core::{Fault, PRESENT_VERSION};
 use wu_machine::laws::commands_keep_projects;
 use wu_machine::{Answer, Command};
 use wu_plans::{
     Ask, Plan, plan_batch, plan_cancel, plan_classes, plan_pass, plan_reported, plan_sent,
     plan_upgrade,
 };
-use wu_schema::{PRESENT_VERSION, check_version, create, version_of};
+use wu_schema::{check_version, create, version_of};
 use wu_store::Change;
 
 /// Finds the project of the database, or makes a fresh one if it has none of a project's tables. Returns the version of

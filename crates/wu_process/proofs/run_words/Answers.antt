@@ -27,7 +27,12 @@ returns-in-Ok-Export g c =
 pub returns-in-Ok-Explain : goal.returns-in-Ok-Explain
 returns-in-Ok-Explain g c =
     let ordered : IsOrderOf (map string_bytes c.args.words.now) (order.Explain c.in-Ok-Explain.topic) = search rules in
-    (inr (inr (inr (c.in-Ok-Explain.topic, ordered, c.explain.ensures))), refl, refl)
+    (inr (inr (inr (inl (c.in-Ok-Explain.topic, ordered, c.explain.ensures)))), refl, refl)
+
+pub returns-in-Ok-Lint : goal.returns-in-Ok-Lint
+returns-in-Ok-Lint g c =
+    let ordered : IsOrderOf (map string_bytes c.args.words.now) (order.Lint c.in-Ok-Lint.asked) = search rules in
+    (inr (inr (inr (inr (c.in-Ok-Lint.asked, ordered, c.lint.ensures)))), refl, refl)
 
 pub returns-in-Ok-Session : goal.returns-in-Ok-Session
 returns-in-Ok-Session g c =

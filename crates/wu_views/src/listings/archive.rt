@@ -1,6 +1,7 @@
 //! What the view of the archive lists.
 
 use crate::listings::Listing;
+use crate::texts::LIST_ARCHIVE;
 use sqlite::{Alter, Row};
 use std::alloc::Global;
 use wu_core::{Archived, Fault};
@@ -23,7 +24,7 @@ impl Listing for ArchiveListing {
     ghost is_readable = { IsArchiveStorable };
 
     fn question<S: Alter>() -> &'static str {
-        "SELECT seq, number, name, error_mask, canonical, output, done_at FROM archived ORDER BY seq"
+        LIST_ARCHIVE
     }
 
     fn read(alloc: Global, row: &Row) -> Result<Archived, Fault> {

@@ -2,6 +2,7 @@
 
 use crate::lines::class_from;
 use crate::listings::Listing;
+use crate::texts::LIST_CLASSES;
 use sqlite::{Alter, Row};
 use std::alloc::Global;
 use wu_core::{Fault, HostClass};
@@ -23,7 +24,7 @@ impl Listing for ClassListing {
     ghost is_readable = { λ world. AreClassed world.classes };
 
     fn question<S: Alter>() -> &'static str {
-        "SELECT host, class FROM host_class ORDER BY host"
+        LIST_CLASSES
     }
 
     fn read(alloc: Global, row: &Row) -> Result<HostClass, Fault> {

@@ -2,6 +2,7 @@
 
 use crate::lines::{HostLine, host_from};
 use crate::listings::Listing;
+use crate::texts::LIST_HOSTS;
 use sqlite::{Alter, Row};
 use std::alloc::Global;
 use wu_core::Fault;
@@ -22,7 +23,7 @@ impl Listing for HostListing {
     ghost is_readable = { AreHostsNamed };
 
     fn question<S: Alter>() -> &'static str {
-        "SELECT name, total, grants FROM host ORDER BY name"
+        LIST_HOSTS
     }
 
     fn read(alloc: Global, row: &Row) -> Result<HostLine, Fault> {

@@ -2,6 +2,7 @@
 
 use crate::lines::{ImportLine, import_line_from};
 use crate::listings::Listing;
+use crate::texts::LIST_IMPORTS;
 use sqlite::{Alter, Row};
 use std::alloc::Global;
 use wu_core::Fault;
@@ -22,7 +23,7 @@ impl Listing for ImportListing {
     ghost is_readable = { AreImportsStorable };
 
     fn question<S: Alter>() -> &'static str {
-        "SELECT kind, name, first_number, verdicts FROM import ORDER BY kind, name"
+        LIST_IMPORTS
     }
 
     fn read(alloc: Global, row: &Row) -> Result<ImportLine, Fault> {

@@ -2,6 +2,7 @@
 
 use crate::lines::ResultLine;
 use crate::listings::Listing;
+use crate::texts::LIST_RESULTS;
 use sqlite::{Alter, Row};
 use std::alloc::Global;
 use wu_core::Fault;
@@ -23,7 +24,7 @@ impl Listing for ResultListing {
     ghost is_readable = { AreStorable };
 
     fn question<S: Alter>() -> &'static str {
-        "SELECT server_state, outcome, validate_state, result.file_delete, host, sent_at, deadline, received_at, n, name, length(output) FROM result, workunit WHERE number = workunit ORDER BY workunit, n"
+        LIST_RESULTS
     }
 
     fn read(alloc: Global, row: &Row) -> Result<ResultLine, Fault> {

@@ -2,6 +2,7 @@
 
 use crate::lines::WorkunitLine;
 use crate::listings::Listing;
+use crate::texts::LIST_WORKUNITS;
 use sqlite::{Alter, Row};
 use std::alloc::Global;
 use wu_core::Fault;
@@ -23,7 +24,7 @@ impl Listing for WorkunitListing {
     ghost is_readable = { AreStorable };
 
     fn question<S: Alter>() -> &'static str {
-        "SELECT number, name, min_quorum, target_nresults, max_error_results, max_total_results, max_success_results, delay_bound, credit, length(input), error_mask, canonical, assimilate, file_delete, done_at, class FROM workunit, workunit_class WHERE workunit = number ORDER BY number"
+        LIST_WORKUNITS
     }
 
     fn read(alloc: Global, row: &Row) -> Result<WorkunitLine, Fault> {

@@ -3,7 +3,7 @@ use Rattle.wu_core.specs.Names.{name_of}
 use Rattle.wu_core.specs.Reads.{TellsRefusal}
 use Rattle.wu_machine.specs.declared.command.Command.TheVariants as command
 use Rattle.wu_arguments.specs.Actions.{pass_command}
-use Rattle.wu_arguments.proofs.ActionLemmas.{made, not_made}
+use Rattle.wu_arguments.proofs.ActionLemmas.{made, not_made, told_same}
 use Rattle.wu_arguments.proofs.action.prepare.Goals as goal
 
 pub returns-in-Import : goal.returns-in-Import
@@ -14,6 +14,9 @@ returns-in-Cycle c = rw c.in-Cycle.is (record { action = c.all_of_cycle.ensures.
 
 pub returns-in-Show : goal.returns-in-Show
 returns-in-Show c = rw c.in-Show.is (record { action = inl refl; told = tt })
+
+pub returns-in-Status : goal.returns-in-Status
+returns-in-Status c = rw c.in-Status.is (record { action = inl c.status.ensures; told = told_same _ _ c.status.ensures })
 
 pub returns-in-Upgrade : goal.returns-in-Upgrade
 returns-in-Upgrade c = rw c.in-Upgrade.is (record { action = c.one-in-Upgrade.ensures; told = tt })

@@ -6,3 +6,6 @@ returns-in-UnknownView g c = usage_told_as _ _ c.write_line.result _ _ c.in-Unkn
 
 pub returns-in-UnknownTopic : goal.returns-in-UnknownTopic
 returns-in-UnknownTopic g c = usage_told_as _ _ c.write_line-in-UnknownTopic.result _ _ c.in-UnknownTopic.is c.write_line-in-UnknownTopic.ensures
+
+pub returns-in-UnknownKind : goal.returns-in-UnknownKind
+returns-in-UnknownKind g c = usage_told_as _ _ c.write_line-in-UnknownKind.result _ _ c.in-UnknownKind.is c.write_line-in-UnknownKind.ensures

@@ -1,7 +1,8 @@
 use Rattle.std.proofs.Common.{◌≡◌, ◌∙◌, arith, inr}
 use Rattle.sqlite.specs.Held.{state}
 use Rattle.sqlite.specs.State.{HasCleanDisk}
-use Rattle.wu_plans.proofs.AskLemmas.{asks_handed, asks_over, asks_then, handed_is, handed_on}
+use Rattle.wu_plans.proofs.AskLemmas.{asks_handed, asks_then, handed_is, handed_on}
+use Rattle.wu_views.proofs.WaitingLemmas.{asks_over}
 use Rattle.wu_plans.proofs.ExitLemmas.{serves_handed}
 use Rattle.wu_passes.proofs.upgrading.plan_present.Goals as goal
 

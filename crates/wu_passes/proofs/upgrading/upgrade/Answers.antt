@@ -4,7 +4,7 @@ use Rattle.sqlite.specs.State.{HasCleanDisk}
 use Rattle.wu_core.specs.declared.fault.Fault.TheVariants.{NotAProject}
 use Rattle.wu_schema.specs.Calls.{CommitsNothing}
 use Rattle.wu_machine.specs.Requests.{AskUpgrade}
-use Rattle.wu_plans.proofs.AskLemmas.{asks_over}
+use Rattle.wu_views.proofs.WaitingLemmas.{asks_over}
 use Rattle.wu_passes.specs.Adopting.{KeepsAll}
 use Rattle.wu_passes.specs.Standing.{ShowsWorld}
 use Rattle.wu_store.specs.StandsFor.{StandsFor}

@@ -37,6 +37,12 @@ returns-in-Imports-clause-written g c = rw c.in-Imports.is c.write_listing-in-Im
 pub returns-in-Imports-clause-counted : goal.returns-in-Imports-clause-counted
 returns-in-Imports-clause-counted g c is = absurd (let no = sym is ∙ c.in-Imports.is in cc)
 
+pub returns-in-Status-clause-written : goal.returns-in-Status-clause-written
+returns-in-Status-clause-written g c = rw c.in-Status.is c.write_due.ensures
+
+pub returns-in-Status-clause-counted : goal.returns-in-Status-clause-counted
+returns-in-Status-clause-counted g c is = absurd (let no = sym is ∙ c.in-Status.is in cc)
+
 pub returns-in-Summary-clause-written : goal.returns-in-Summary-clause-written
 returns-in-Summary-clause-written g c = rw c.in-Summary.is c.write_counts.ensures.written
 

@@ -1,9 +1,10 @@
-use Rattle.wu_schema.proofs.Words.{None, [], codes, refl, state}
+use Rattle.wu_schema.proofs.Words.{None, [], refl, state}
 use Rattle.wu_schema.proofs.Parts.{HostClasses}
 use Rattle.wu_schema.proofs.ReadLemmas.{if_ok}
 use Rattle.wu_views.specs.Counting.{class_count}
 use Rattle.wu_views.proofs.ClassQuestions.{asked_class_count, class_count_question}
 use Rattle.wu_views.proofs.CountedAnswers.{classes_counted, classes_fit, counting}
+use Rattle.wu_views.specs.declared.texts.TheConstants.{COUNT_CLASSES}
 use Rattle.wu_views.proofs.counts.count_classes.Goals as goal
 
 pub returns : goal.returns
@@ -12,7 +13,7 @@ returns g c =
     let new = c.ask_count.new.conn in
     let q = c.ask_count.ensures in
     let r = c.ask_count.result in
-    let it = asked_class_count g.S.Store (class_count_question HostClasses (λ version known. known) (counting (codes "SELECT count(*) FROM host_class")) None classes_fit [] refl (λ _. refl)) old new [] refl class_count
+    let it = asked_class_count g.S.Store (class_count_question HostClasses (λ version known. known) (counting COUNT_CLASSES.now) None classes_fit [] refl (λ _. refl)) old new [] refl class_count
     (λ rows h world known s. classes_counted (state g.S.Store old) (state g.S.Store new) world s rows known h) r q.asks q.opens q.shows q.fails q.told in
     record {
       asks = it.asks;

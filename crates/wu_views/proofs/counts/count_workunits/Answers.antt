@@ -1,9 +1,10 @@
-use Rattle.wu_schema.proofs.Words.{None, [], codes, refl, state}
+use Rattle.wu_schema.proofs.Words.{None, [], refl, state}
 use Rattle.wu_schema.proofs.Parts.{WorkClasses}
 use Rattle.wu_schema.proofs.ReadLemmas.{if_ok}
 use Rattle.wu_views.specs.Counting.{workunit_count}
 use Rattle.wu_views.proofs.ClassQuestions.{asked_class_count, class_count_question}
 use Rattle.wu_views.proofs.CountedAnswers.{counting, workunits_counted, workunits_fit}
+use Rattle.wu_views.specs.declared.texts.TheConstants.{COUNT_WORKUNITS}
 use Rattle.wu_views.proofs.counts.count_workunits.Goals as goal
 
 pub returns : goal.returns
@@ -12,7 +13,7 @@ returns g c =
     let new = c.ask_count.new.conn in
     let q = c.ask_count.ensures in
     let r = c.ask_count.result in
-    let it = asked_class_count g.S.Store (class_count_question WorkClasses (λ version known. known) (counting (codes "SELECT count(*) FROM workunit_class")) None workunits_fit [] refl (λ _. refl)) old new [] refl workunit_count
+    let it = asked_class_count g.S.Store (class_count_question WorkClasses (λ version known. known) (counting COUNT_WORKUNITS.now) None workunits_fit [] refl (λ _. refl)) old new [] refl workunit_count
     (λ rows h world known s. workunits_counted (state g.S.Store old) (state g.S.Store new) world s rows known h) r q.asks q.opens q.shows q.fails q.told in
     record {
       asks = it.asks;

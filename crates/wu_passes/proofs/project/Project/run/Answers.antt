@@ -11,7 +11,7 @@ use Rattle.wu_machine.specs.Sound.{IsProject}
 use Rattle.wu_passes.specs.Projects.{older_version, RunsFromAny}
 use Rattle.wu_passes.specs.Standing.{GoesOn, Runs, ShowsWorld}
 use Rattle.wu_store.specs.Loading.{IsStoreFault}
-use Rattle.wu_plans.proofs.AskLemmas.{asks_over}
+use Rattle.wu_views.proofs.WaitingLemmas.{asks_over}
 use Rattle.wu_passes.proofs.SessionLemmas.{answers_older, limits_run, limits_why, older_runs, older_why, reaches_then, refused_other, stays_over}
 use Rattle.wu_passes.proofs.StandingLemmas.{cut_why, error_is, from_then, from_unplanned, goes_read, shows_back, idle_keeps, keeps_as_before, keeps_self, keeps_then, plan_keeps, plan_refused, refused_open, stands_read, unplanned_why}
 use Rattle.wu_passes.proofs.project.Project.run.Goals as goal

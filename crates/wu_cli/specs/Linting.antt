@@ -1,0 +1,100 @@
+-- Whether a file reads as its import or its script would read it.
+use Rattle.std.specs.Prelude.{◌≡◌, ◌⊎◌, ℕ, List, ◌++◌, bytes_eq, codes, if◌then◌else◌, IfErr, Option, Some, None, Result, Ok, Err}
+use Rattle.wu_core.specs.Reads.{IsOrWantsMemory}
+use Rattle.wu_core.specs.declared.fault.Fault.{Fault}
+use Rattle.wu_core.specs.declared.fault.Fault.TheVariants.{BadFile, Memory, Output}
+use Rattle.wu_core.specs.declared.fault.FileCause.TheVariants.{Unreadable}
+use Rattle.wu_feed.specs.Classes.{classes_of_file}
+use Rattle.wu_feed.specs.Jobs.{jobs_of_file}
+use Rattle.wu_feed.specs.Limits.{longest_file, longest_template}
+use Rattle.wu_feed.specs.Reports.{reports_of_file}
+use Rattle.wu_feed.specs.Sends.{sends_of_file}
+use Rattle.wu_feed.specs.Templates.{template_of}
+use Rattle.wu_report.specs.Texts.{line_end}
+use Rattle.wu_report.specs.Writing.{WritesTo}
+use Rattle.wu_arguments.specs.declared.order.LintOrder.{LintOrder}
+use Rattle.wu_arguments.specs.declared.order.ScriptFile.{ScriptFile}
+use Rattle.wu_arguments.specs.declared.usage.Usage.TheVariants.{UnknownKind}
+use Rattle.wu_cli.specs.Working.{AsksOfScript}
+use Rattle.wu_cli.specs.declared.linting.FileKind.{FileKind}
+use Rattle.wu_cli.specs.declared.linting.FileKind.TheVariants.{Jobs, Sends, Reports, Classes, Template}
+use Rattle.wu_cli.specs.declared.linting.LintKind.{LintKind}
+use Rattle.wu_cli.specs.declared.linting.LintKind.TheVariants.{Imported, Script}
+use Rattle.wu_cli.specs.declared.trouble.Trouble.{Trouble}
+use Rattle.wu_cli.specs.declared.trouble.Trouble.TheVariants as trouble
+use Rattle.wu_cli.specs.declared.work.Work.{Work}
+
+-- What a file is for, by its word.
+abbrev pub kind_named : List ℕ → Option LintKind
+kind_named word =
+    if bytes_eq word (codes "jobs") then Some (Imported Jobs)
+    else if bytes_eq word (codes "sends") then Some (Imported Sends)
+    else if bytes_eq word (codes "reports") then Some (Imported Reports)
+    else if bytes_eq word (codes "classes") then Some (Imported Classes)
+    else if bytes_eq word (codes "template") then Some (Imported Template)
+    else if bytes_eq word (codes "script") then Some Script
+    else None
+
+-- The most bytes of such a file.
+abbrev pub longest_of : FileKind → ℕ
+longest_of Template = longest_template
+longest_of _ = longest_file
+
+-- Whether a reading succeeded, or its fault.
+abbrev pub nothing_of : {T E : Type 0} → Result T E → Result (Unit {0}) E
+nothing_of (Ok read) = Ok tt
+nothing_of (Err fault) = Err fault
+
+-- Whether bytes read as such a file, or the fault with which its import refuses them.
+abbrev pub read_as : FileKind → List ℕ → Result (Unit {0}) Fault
+read_as Jobs bytes = nothing_of (jobs_of_file bytes)
+read_as Sends bytes = nothing_of (sends_of_file bytes)
+read_as Reports bytes = nothing_of (reports_of_file bytes)
+read_as Classes bytes = nothing_of (classes_of_file bytes)
+read_as Template bytes = nothing_of (template_of bytes)
+
+-- Whether a file with this content reads so; one that cannot be read is refused as its import refuses it.
+abbrev pub linted : FileKind → Option (List ℕ) → Result (Unit {0}) Fault
+linted kind (Some bytes) = read_as kind bytes
+linted kind None = Err (BadFile 0 Unreadable)
+
+-- The fault of a file, as a trouble.
+abbrev pub as_trouble : Result (Unit {0}) Fault → Result (Unit {0}) Trouble
+as_trouble (Ok read) = Ok tt
+as_trouble (Err fault) = Err (trouble.Fault fault)
+
+module _ (gives : List ℕ → ℕ → Option (List ℕ) → Type 0) where
+  -- The file at the path is read as one of this kind, or the call is out of memory.
+  abbrev pub LintsFile : FileKind → List ℕ → Result (Unit {0}) Fault → Type 0
+  LintsFile kind path result =
+      (result ≡ Err Memory) ⊎ ((content : Option (List ℕ)) × gives path (longest_of kind) content × IsOrWantsMemory result (linted kind content))
+
+  -- The script at the path is read with the files of its lines, or the call is out of memory.
+  abbrev pub LintsScript : List ℕ → Result (Unit {0}) Trouble → Type 0
+  LintsScript path result =
+      (result ≡ Err (trouble.Fault Memory))
+      ⊎ ((script : ScriptFile) × (script.file ≡ path) × ((asked : Result Work Trouble) × AsksOfScript gives script asked × (result ≡ nothing_of asked)))
+
+  -- The file at the path is read as what it is for.
+  abbrev pub LintsKind : LintKind → List ℕ → Result (Unit {0}) Trouble → Type 0
+  LintsKind (Imported kind) path result = (read : Result (Unit {0}) Fault) × LintsFile kind path read × (result ≡ as_trouble read)
+  LintsKind Script path result = LintsScript path result
+
+-- The line of a file that reads as it should.
+abbrev pub sound_file_text : List ℕ → List ℕ
+sound_file_text path = codes "ok " ++ path ++ line_end
+
+-- The file reads as it should, and this goes out. Or the trouble is that of its reading, and nothing goes out.
+abbrev pub TellsLint : {W : Type 0} → (W → Option (List ℕ)) → List ℕ → W → W → Result (Unit {0}) Trouble → Result (Unit {0}) Trouble → Type 0
+TellsLint contents path old new (Ok read) done =
+    WritesTo contents old new (sound_file_text path) done × IfErr done (λ told. told ≡ trouble.Fault Output)
+TellsLint contents path old new (Err told) done = (done ≡ Err told) × (new ≡ old)
+
+-- What the words ask to be read is read, by the kind that they name.
+abbrev pub LintsAs : {W : Type 0} → (List ℕ → ℕ → Option (List ℕ) → Type 0) → (W → Option (List ℕ)) → Option LintKind → List ℕ → W → W → Result (Unit {0}) Trouble → Type 0
+LintsAs gives contents (Some kind) path old new done =
+    (read : Result (Unit {0}) Trouble) × LintsKind gives kind path read × TellsLint contents path old new read done
+LintsAs gives contents None path old new done = (done ≡ Err (trouble.Usage UnknownKind)) × (new ≡ old)
+
+abbrev pub Lints : {W : Type 0} → (List ℕ → ℕ → Option (List ℕ) → Type 0) → (W → Option (List ℕ)) → LintOrder → W → W → Result (Unit {0}) Trouble → Type 0
+Lints gives contents it old new done = LintsAs gives contents (kind_named it.kind) it.file old new done

@@ -1,0 +1,157 @@
+//! Whether a file reads as its import or its script would read it. No database is opened.
+
+ghost use Rattle.std.specs.Prelude.{◌≡◌, IsOkUnless};
+ghost use Rattle.wu_core.specs.declared.fault.Fault.TheVariants.{Output};
+ghost use Rattle.wu_core.specs.Reads.{IsOrWantsMemory};
+ghost use Rattle.wu_report.specs.Writing.{WritesTo};
+ghost use Rattle.wu_cli.specs.Linting.{kind_named, Lints, LintsFile, LintsKind, LintsScript, longest_of, nothing_of, read_as, sound_file_text};
+
+use crate::texts::write_flushed;
+use crate::trouble::Trouble;
+use crate::work::Work;
+use std::alloc::Global;
+use std::io::Write;
+use wu_arguments::{LintOrder, ReadFile, ScriptFile, Usage, Word};
+use wu_core::{Fault, FileCause};
+use wu_feed::{
+    LONGEST_FILE, LONGEST_TEMPLATE, read_classes, read_jobs, read_reports, read_sends,
+    read_template,
+};
+use wu_report::Piece;
+
+/// What a file that an import takes is read as.
+#[derive(Clone, Copy)]
+pub enum FileKind {
+    Jobs,
+    Sends,
+    Reports,
+    Classes,
+    Template,
+}
+
+/// What a file is read as.
+#[derive(Clone, Copy)]
+pub enum LintKind {
+    /// A file that an import takes.
+    Imported(FileKind),
+    Script,
+}
+
+/// Returns what a file is read as, by its word.
+fn kind_named(word: &str) -> Option<LintKind>
+    ensures { result ≡ kind_named word.now }
+{
+    match word {
+        "jobs" => Some(LintKind::Imported(FileKind::Jobs)),
+        "sends" => Some(LintKind::Imported(FileKind::Sends)),
+        "reports" => Some(LintKind::Imported(FileKind::Reports)),
+        "classes" => Some(LintKind::Imported(FileKind::Classes)),
+        "template" => Some(LintKind::Imported(FileKind::Template)),
+        "script" => Some(LintKind::Script),
+        _ => None,
+    }
+}
+
+/// Returns how many bytes such a file has at most.
+fn longest_of(kind: FileKind) -> usize
+    ensures { result ≡ longest_of kind }
+{
+    match kind {
+        FileKind::Template => LONGEST_TEMPLATE,
+        _ => LONGEST_FILE,
+    }
+}
+
+/// Returns whether a reading succeeded, or its fault.
+fn nothing_of<T: Drop, E: Drop>(read: Result<T, E>) -> Result<(), E>
+    ensures { result ≡ nothing_of read }
+{
+    match read {
+        Ok(_read) => Ok(()),
+        Err(fault) => Err(fault),
+    }
+}
+
+/// Reads the bytes of a file as its import does. The fault is that of the import.
+fn read_as(alloc: Global, kind: FileKind, bytes: &[u8]) -> Result<(), Fault>
+    ensures { IsOrWantsMemory result (read_as kind bytes.now) }
+{
+    match kind {
+        FileKind::Jobs => nothing_of(read_jobs(alloc, bytes)),
+        FileKind::Sends => nothing_of(read_sends(alloc, bytes)),
+        FileKind::Reports => nothing_of(read_reports(alloc, bytes)),
+        FileKind::Classes => nothing_of(read_classes(alloc, bytes)),
+        FileKind::Template => nothing_of(read_template(alloc, bytes)),
+    }
+}
+
+/// Reads a file as its import does. One that cannot be read is `BadFile` with row 0 and `Unreadable`.
+fn lint_file<F: ReadFile>(alloc: Global, kind: FileKind, path: &str, files: &F) -> Result<(), Fault>
+    ensures { LintsFile (F.ReadFile.gives files.now) kind path.now result }
+{
+    match files.read(path, longest_of(kind))? {
+        Some(bytes) => read_as(alloc, kind, bytes.as_slice()),
+        None => Err(Fault::BadFile {
+            row: 0,
+            cause: FileCause::Unreadable,
+        }),
+    }
+}
+
+/// Reads a script with the files of its lines, as before it is run over a project.
+fn lint_script<F: ReadFile>(alloc: Global, path: &str, files: &F) -> Result<(), Trouble>
+    ensures { LintsScript (F.ReadFile.gives files.now) path.now result }
+{
+    let script = ScriptFile {
+        db: Word::from_text(alloc, "project.db")?,
+        file: Word::from_text(alloc, path)?,
+    };
+    nothing_of(Work::of_script(alloc, &script, files))
+}
+
+/// Reads a file as what it is for.
+fn lint_as<F: ReadFile>(alloc: Global, kind: LintKind, path: &str, files: &F) -> Result<(), Trouble>
+    ensures { LintsKind (F.ReadFile.gives files.now) kind path.now result }
+{
+    match kind {
+        LintKind::Imported(kind) => {
+            lint_file(alloc, kind, path, files)?;
+            Ok(())
+        }
+        LintKind::Script => lint_script(alloc, path, files),
+    }
+}
+
+/// Writes that the file reads well, and flushes.
+fn write_sound_file<W: Write>(out: &mut W, path: &str) -> Result<(), Fault>
+    ensures bytes { WritesTo W.contents out.old out.new (sound_file_text path.now) result }
+    ensures fault { IsOkUnless result Output }
+{
+    write_flushed(
+        out,
+        &[Piece::Text("ok "), Piece::Text(path), Piece::Text("\n")],
+    )
+}
+
+/// Reads a file as its import or its script would read it, and says that it can. Else the trouble is the first fault of
+/// that reading, or of a script the first line that cannot be run. An unknown kind is refused with status 2.
+///
+/// A script's lines are read as over a project in `project.db`, which is not opened.
+pub fn lint<F: ReadFile, W: Write>(
+    alloc: Global,
+    asked: &LintOrder,
+    files: &F,
+    out: &mut W,
+) -> Result<(), Trouble>
+    // The kind is unknown, which is reported. Or the file reads as it should, and its path goes
+    // out, or a prefix of that line with `Output`. Or the first fault of its reading is reported,
+    // and nothing goes out.
+    ensures { Lints (F.ReadFile.gives files.now) W.contents asked.now out.old out.new result }
+{
+    let Some(kind) = kind_named(asked.kind.as_str()) else {
+        return Err(Trouble::Usage(Usage::UnknownKind));
+    };
+    lint_as(alloc, kind, asked.file.as_str(), files)?;
+    write_sound_file(out, asked.file.as_str())?;
+    Ok(())
+}

@@ -1,5 +1,0 @@
-use Rattle.wu_report.proofs.LineLemmas.{class_pieces-are}
-use Rattle.wu_report.proofs.lines.HostClassViewLine.write.Goals as goal
-
-pub returns : goal.returns
-returns g c = rw (class_pieces-are c.args.self.now _ _ c.as_str.ensures c.from.ensures) c.write_pieces.ensures
