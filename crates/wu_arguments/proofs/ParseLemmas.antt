@@ -17,7 +17,7 @@ module _ (app : App) (words : List (List ℕ)) (free : is_simple_and_free app �
   explained error (Refused text) told (inl memory) = absurd (told memory)
   explained error (Refused text) told (inr among) = λ none. subst (IsAmong (kind_of error)) none among
   explained error UnknownView told kinds = told
-  explained error UnknownTopic told kinds = told
+  explained error (UnknownTopic near) told kinds = told
   explained error UnknownKind told kinds = told
   explained error NotText told kinds = told
   explained error LongLine told kinds = told

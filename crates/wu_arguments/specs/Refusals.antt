@@ -24,7 +24,7 @@ use Rattle.wu_arguments.specs.declared.usage.Usage.TheVariants.{Refused, Unknown
 abbrev pub IsTold : Error → Usage → Type 0
 IsTold error (Refused text) = kind_of error ≢ OutOfMemory
 IsTold error UnknownView = ⊥
-IsTold error UnknownTopic = ⊥
+IsTold error (UnknownTopic near) = ⊥
 IsTold error UnknownKind = ⊥
 IsTold error NotText = ⊥
 IsTold error LongLine = ⊥
@@ -35,7 +35,7 @@ IsTold error Memory = ⊤
 abbrev pub IsRefusalBy : App → List (List ℕ) → Usage → Type 0
 IsRefusalBy app words (Refused text) = fault_of app words ≢ []
 IsRefusalBy app words UnknownView = ⊥
-IsRefusalBy app words UnknownTopic = ⊥
+IsRefusalBy app words (UnknownTopic near) = ⊥
 IsRefusalBy app words UnknownKind = ⊥
 IsRefusalBy app words NotText = ⊥
 IsRefusalBy app words LongLine = ⊥
@@ -114,7 +114,7 @@ IsIncomplete (Some found) = LacksOfNamed found.1 (subcommand_named found.0)
 abbrev pub Explains : List (List ℕ) → Usage → Type 0
 Explains words (Refused text) = fault_of program words ≢ []
 Explains words UnknownView = (found : List Row) × (subcommand_of program words ≡ Some (subcommand_name Show, found)) × IsViewIn found None
-Explains words UnknownTopic = ⊥
+Explains words (UnknownTopic near) = ⊥
 Explains words UnknownKind = ⊥
 Explains words NotText = ⊥
 Explains words LongLine = ⊥

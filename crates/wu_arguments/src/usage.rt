@@ -16,8 +16,8 @@ pub enum Usage {
     Refused(Word),
     /// What is to be shown is no view.
     UnknownView,
-    /// What is to be explained is no topic.
-    UnknownTopic,
+    /// What is to be explained is no topic, with the topic that is near to it.
+    UnknownTopic(Option<Word>),
     /// What a file is for is no kind of files.
     UnknownKind,
     /// The words of the process are no UTF-8 text.

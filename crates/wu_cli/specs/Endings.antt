@@ -1,5 +1,5 @@
 -- How the program ends: the line on its standard error.
-use Rattle.std.specs.Prelude.{ℕ, Bool, true, false, List, ◌++◌, codes, Option}
+use Rattle.std.specs.Prelude.{ℕ, Bool, true, false, List, ◌++◌, codes, Option, Some, None}
 use Rattle.std.specs.Io.KnownBytes.{Appends}
 use Rattle.wu_core.specs.declared.fault.Fault.{Fault}
 use Rattle.wu_core.specs.declared.fault.Fault.TheVariants as fault
@@ -45,7 +45,8 @@ cause_text cause.TooManyLines = codes "a script has at most 1000 lines" ++ line_
 abbrev pub usage_text : Usage → List ℕ
 usage_text (usage.Refused text) = text
 usage_text usage.UnknownView = codes "unknown view" ++ line_end
-usage_text usage.UnknownTopic = codes "unknown topic: lintelthyme explain lists them" ++ line_end
+usage_text (usage.UnknownTopic None) = codes "unknown topic: lintelthyme explain lists them" ++ line_end
+usage_text (usage.UnknownTopic (Some near)) = codes "unknown topic, perhaps " ++ near ++ line_end
 usage_text usage.UnknownKind = codes "unknown kind: jobs, sends, reports, classes, template or script" ++ line_end
 usage_text usage.LongLine = codes "line too long" ++ line_end
 usage_text usage.NotText = cause_text cause.NotText

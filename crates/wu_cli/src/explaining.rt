@@ -4,9 +4,10 @@ ghost use Rattle.wu_cli.specs.Explaining.{ExplainsTopic};
 
 use crate::texts::write_text;
 use crate::trouble::Trouble;
+use std::alloc::Global;
 use std::io::Write;
 use wu_arguments::{Topic, Usage, Word};
-use wu_explain::explanation;
+use wu_explain::{explanation, nearest};
 
 /// Returns the text of a word; empty where there is none.
 fn text_or_empty(word: &Option<Word>) -> &str {
@@ -16,16 +17,28 @@ fn text_or_empty(word: &Option<Word>) -> &str {
     }
 }
 
+/// Returns the topic that is near to this one, where it has one word. Out of memory it is `None`.
+fn near_topic(alloc: Global, topic: &Topic) -> Option<Word> {
+    match &topic.detail {
+        Some(_) => None,
+        None => {
+            let near = nearest(alloc, text_or_empty(&topic.name))?;
+            Word::from_text(alloc, near).ok()
+        }
+    }
+}
+
 /// Writes the explanation of a topic, and flushes. Words that name no topic are refused with status 2, and nothing is
-/// written. It takes no memory.
-pub fn explain<W: Write>(topic: &Topic, out: &mut W) -> Result<(), Trouble>
+/// written; a topic that is near to one word is named.
+pub fn explain<W: Write>(alloc: Global, topic: &Topic, out: &mut W) -> Result<(), Trouble>
     // The text of the topic goes out, which is not empty; or a prefix of it with `Output`. Or the
     // words name no topic, which is reported, and nothing goes out.
     ensures { ExplainsTopic W.contents out.old out.new result }
 {
     let told = explanation(text_or_empty(&topic.name), text_or_empty(&topic.detail));
     let Some(text) = told else {
-        return Err(Trouble::Usage(Usage::UnknownTopic));
+        let near = near_topic(alloc, topic);
+        return Err(Trouble::Usage(Usage::UnknownTopic(near)));
     };
     write_text(out, text)?;
     Ok(())

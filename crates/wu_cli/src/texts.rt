@@ -8,7 +8,7 @@ ghost use Rattle.wu_report.specs.Writing.{piece_text, WritesTo};
 ghost use Rattle.wu_cli.specs.Endings.{bad_line_text, cause_text, fault_line, line_fault_text, line_front, outsider_line, refusal_text, usage_text, WritesAll};
 
 use std::io::Write;
-use wu_arguments::{BadLine, Export, LineFault, Outsider, Refusal, Usage};
+use wu_arguments::{BadLine, Export, LineFault, Outsider, Refusal, Usage, Word};
 use wu_core::Fault;
 use wu_feed::LineCause;
 use wu_report::{Piece, flush, write_pieces};
@@ -116,6 +116,17 @@ pub(crate) fn line_of_fault<W: Write>(out: &mut W, fault: Fault) -> Result<(), F
     }
 }
 
+/// Writes that a topic is unknown, and which one is near, if one is.
+fn text_of_unknown_topic<W: Write>(out: &mut W, near: &Option<Word>) -> Result<(), Fault>
+    ensures { WritesTo W.contents out.old out.new
+        (usage_text (Usage.UnknownTopic near.now)) result }
+{
+    match near {
+        Some(near) => worded(out, "unknown topic, perhaps ", near.as_str()),
+        None => write_line(out, "unknown topic: lintelthyme explain lists them"),
+    }
+}
+
 /// Writes the text of why words are no command line.
 pub(crate) fn text_of_usage<W: Write>(out: &mut W, usage: &Usage) -> Result<(), Fault>
     // With Ok exactly the text of why the words are refused is written, and else a prefix of it.
@@ -124,7 +135,7 @@ pub(crate) fn text_of_usage<W: Write>(out: &mut W, usage: &Usage) -> Result<(), 
     match usage {
         Usage::Refused(text) => write_flushed(out, &[Piece::Text(text.as_str())]),
         Usage::UnknownView => write_line(out, "unknown view"),
-        Usage::UnknownTopic => write_line(out, "unknown topic: lintelthyme explain lists them"),
+        Usage::UnknownTopic(near) => text_of_unknown_topic(out, near),
         Usage::UnknownKind => {
             write_line(
                 out,

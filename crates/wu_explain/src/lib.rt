@@ -9,6 +9,7 @@ mod files;
 mod lowered;
 mod statuses;
 mod subjects;
+mod topics;
 mod views;
 mod words;
 
@@ -17,6 +18,7 @@ use files::file_text;
 use lowered::{MOST_BYTES, lowered};
 use statuses::status_text;
 use subjects::subject_text;
+pub use topics::nearest;
 use views::view_text;
 use words::{cause_text, key_text, skip_text, subcommand_text};
 

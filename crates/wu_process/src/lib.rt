@@ -97,7 +97,7 @@ fn run_words<S: sqlite::Start, R: BufRead, O: Write, E: Write>(
         Ok(Order::Check(path)) => Ran::Done(check_path(rt, path.as_str(), out), None),
         Ok(Order::Export(asked)) => Ran::Done(export(rt, &asked, &files, out), None),
         Ok(Order::Lint(asked)) => Ran::Done(lint(alloc, &asked, &files, out), None),
-        Ok(Order::Explain(topic)) => Ran::Done(explain(&topic, out), None),
+        Ok(Order::Explain(topic)) => Ran::Done(explain(alloc, &topic, out), None),
         Err(usage) => Ran::Done(Err(Trouble::Usage(usage)), None),
     }
 }

@@ -114,7 +114,7 @@ fault_told fault.Ended none = absurd (omega (arith, none))
 usage_told : (u : Usage) → usage_status u ≡ 0 → ⊥
 usage_told (usage.Refused word) none = absurd (omega (arith, none))
 usage_told usage.UnknownView none = absurd (omega (arith, none))
-usage_told usage.UnknownTopic none = absurd (omega (arith, none))
+usage_told (usage.UnknownTopic near) none = absurd (omega (arith, none))
 usage_told usage.UnknownKind none = absurd (omega (arith, none))
 usage_told usage.LongLine none = absurd (omega (arith, none))
 usage_told usage.NotText none = absurd (omega (arith, none))
