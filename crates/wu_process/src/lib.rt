@@ -224,7 +224,8 @@ fn can_wipe(rt: &HostRuntime) -> bool {
 
 /// Does what the words of the command line ask for, as `run_with`, with the input and the outputs of the process. Nothing
 /// is assumed of the database file. If standard error is a terminal, it shows in the meantime how many answers have gone
-/// out, and the last one, and at the end that a database was made, if one was. Returns the status to end with.
+/// out, after how many seconds, and the last one. At the end it shows that a database was made, if one was. Returns the
+/// status to end with.
 pub fn run(rt: &HostRuntime) -> u8
     // The status is that of some call of `run_with`, over some words, some outputs and a database
     // file with any contents; or it is 4.
@@ -244,7 +245,7 @@ pub fn run(rt: &HostRuntime) -> u8
     };
     match BufWriter::new(rt.alloc(), rt.stdout()) {
         Ok(out) => {
-            let signs = Signs::new(is_terminal.then_some(rt.stderr()), can_wipe);
+            let signs = Signs::new(is_terminal.then_some(rt.stderr()), *rt, can_wipe);
             let mut out = Watched::new(out, signs);
             out.begin();
             let mut input = rt.reader();

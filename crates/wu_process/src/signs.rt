@@ -1,16 +1,18 @@
-//! The progress line on a terminal: how many answers have gone out, and the last of them. No contract speaks of the
-//! terminal; what it shows is wiped before anything else is written. A terminal that cannot wipe has none. Where rows
-//! were skipped, a line stays that says where to read on.
+//! The progress line on a terminal: how many answers have gone out, after how many seconds, and the last of them. No
+//! contract speaks of the terminal; what it shows is wiped before anything else is written. A terminal that cannot wipe
+//! has none. Where rows were skipped, a line stays that says where to read on.
 
 ghost use Rattle.std.specs.Prelude.{◌≡◌};
 ghost use Rattle.wu_process.specs.Signs.{handed_on};
 
 use std::io::{self, Write};
+use std::time::Instant;
 
 /// The bytes that wipe the last line of a terminal.
 const WIPE: &[u8] = b"\r\x1b[K";
 
-/// How many bytes of a line are shown at most: with the count before it they fit into 80 columns.
+/// How many bytes of a line are shown at most. They fit into 80 columns if the count and the seconds before them have at
+/// most eight digits together.
 const MOST_SHOWN: usize = 48;
 
 /// What stays on a terminal where rows were skipped.
@@ -70,6 +72,9 @@ impl FirstLine {
 pub struct Signs<T: Drop> {
     terminal: Option<T>,
     can_wipe: bool,
+    clock: HostRuntime,
+    /// When the program began; `None` if the clock failed.
+    begun: Option<Instant>,
     answers: u64,
     answer: FirstLine,
     is_shown: bool,
@@ -77,11 +82,14 @@ pub struct Signs<T: Drop> {
 }
 
 impl<T: Write + Drop> Signs<T> {
-    /// Makes the progress line of this terminal, or none. One that cannot wipe shows no progress.
-    pub fn new(terminal: Option<T>, can_wipe: bool) -> Self {
+    /// Makes the progress line of this terminal, or none; its seconds begin now. A terminal that cannot wipe shows no
+    /// progress.
+    pub fn new(terminal: Option<T>, clock: HostRuntime, can_wipe: bool) -> Self {
         Signs {
             terminal,
             can_wipe,
+            clock,
+            begun: Instant::now(&clock).ok(),
             answers: 0,
             answer: FirstLine::new(),
             is_shown: false,
@@ -89,12 +97,20 @@ impl<T: Write + Drop> Signs<T> {
         }
     }
 
-    /// Shows how many answers went out, and the last one; before the first, that the database is opened.
+    /// Returns how many whole seconds have passed; `None` if the clock fails.
+    fn seconds(&self) -> Option<u64> {
+        let passed = self.begun?.elapsed(&self.clock).ok()?;
+        Some(passed.as_secs())
+    }
+
+    /// Shows how many answers went out, after how many seconds, and the last one; before the first, that the database is
+    /// opened.
     fn tell(&mut self) {
-        if !self.can_wipe {
+        if !self.can_wipe || self.terminal.is_none() {
             return;
         }
         let answers = self.answers;
+        let seconds = self.seconds();
         let Some(terminal) = &mut self.terminal else {
             return;
         };
@@ -104,6 +120,9 @@ impl<T: Write + Drop> Signs<T> {
             return;
         }
         let _ = write!(terminal, "lintelthyme: {answers} done");
+        if let Some(seconds) = seconds {
+            let _ = write!(terminal, ", {seconds} s");
+        }
         if let Some(line) = self.answer.shown() {
             let _ = terminal.write_all(b", ");
             let _ = terminal.write_all(line);
