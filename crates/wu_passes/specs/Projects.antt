@@ -15,14 +15,15 @@ use Rattle.wu_machine.specs.declared.command.Command.{Command}
 use Rattle.wu_passes.specs.declared.project.Project.{Project}
 use Rattle.wu_machine.specs.Machine.{has_right_limits, is_upgrade, MakesNothing, step}
 use Rattle.wu_plans.specs.declared.plan.Plan.{Plan}
-use Rattle.wu_plans.specs.Planning.{ForEachProject, NeverEnded, NotRefusedOver, Plans, PlansFor}
+use Rattle.wu_plans.specs.Planning.{NeverEnded, Plans, PlansFor, PlansProject}
 use Rattle.wu_machine.specs.Commands.{request_of}
 use Rattle.wu_machine.specs.Sound.{IsProject}
 use Rattle.wu_store.specs.Loading.{Asks, ServesUnlessFailed}
 use Rattle.wu_store.specs.Classes.{ForEachClassed, NotRefusedClass}
 use Rattle.wu_views.specs.Lines.{summary_of}
 use Rattle.wu_store.specs.StandsFor.{ForEachQueued, NotRefusedQueued, StandsFor}
-use Rattle.wu_views.specs.Summaries.{CountsSummary, FindsAt, IsCountable, SumsSummary}
+use Rattle.wu_store.specs.Reads.{FindsAt}
+use Rattle.wu_views.specs.Summaries.{CountsSummary, IsCountable, SumsSummary}
 use Rattle.wu_views.specs.Waiting.{FindsDueLines}
 use Rattle.wu_views.specs.declared.lines.Summary.{Summary}
 use Rattle.wu_views.specs.declared.waiting.DueLine.{DueLine}
@@ -198,13 +199,10 @@ pub record KeepsAsking {S T : Type 0} {g : Ghosts S} (old new : Project S g) (re
   -- The session stays over its version.
   pub version : KeepsVersion old new
 
--- Over an adopted project no read is refused.
-abbrev pub ReadsUnrefused : {S T : Type 0} {g : Ghosts S} → Project S g → Project S g → Result T Fault → Type 0
-ReadsUnrefused {S} {T} {g} old new result = NotRefusedOver g (connection_of old) (connection_of new) result IsProject
-
--- The plan of the command is made, or the machine refuses it.
+-- The plan of the command is made, or the machine refuses it; it only reads, and over an adopted project no read is
+-- refused.
 abbrev pub PlansOn : {S : Type 0} {g : Ghosts S} → Project S g → Project S g → Command → Result Plan Fault → Type 0
-PlansOn {S} {g} old new command result = ForEachProject g (connection_of old) (connection_of new) (PlansFor (request_of command) result)
+PlansOn {S} {g} old new command result = PlansProject g (connection_of old) (connection_of new) result (PlansFor (request_of command)) IsProject
 
 -- The changes of a plan are made over the session's world, and its answer is given.
 abbrev pub CarriesOut : {S : Type 0} {g : Ghosts S} → Project S g → Project S g → Answer → List Change → Result Answer Fault → Type 0

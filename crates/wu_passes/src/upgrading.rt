@@ -3,10 +3,10 @@
 ghost use Rattle.std.specs.Prelude.{◌≡◌, false, true, [], IfErr, OnErr};
 ghost use Rattle.wu_machine.specs.Requests.{AskUpgrade};
 ghost use Rattle.wu_machine.specs.Sound.{IsProject};
-ghost use Rattle.wu_plans.specs.Planning.{ForEachProject, NeverEnded, NotRefusedOver, PlansFor};
+ghost use Rattle.wu_plans.specs.Planning.{PlansFor, PlansProject};
 ghost use Rattle.wu_schema.specs.Calls.{CommitsNothing, CrashAllows, GoesBack};
 ghost use Rattle.wu_store.specs.Changing.{MakesWorlds};
-ghost use Rattle.wu_store.specs.Loading.{Asks, ServesUnlessFailed};
+ghost use Rattle.wu_store.specs.Loading.{ServesUnlessFailed};
 ghost use Rattle.wu_passes.specs.Upgrading.{KeepsPresent, MakesUpgrade, OpensUnlessFailed, ReadsProject, UpgradesEach};
 
 use crate::commit::change_all;
@@ -19,11 +19,8 @@ use wu_store::Change;
 
 /// Returns what the upgrade of the project changes, or its first refusal.
 fn plan_present<'a, S: Alter>(conn: &mut Connection<S>, alloc: Global) -> Result<Plan<'a>, Fault>
-    ensures asks { Asks S.Store conn.old conn.new result }
     ensures opens { ServesUnlessFailed S.Store conn.new result }
-    ensures never { NeverEnded result }
-    ensures unrefused { NotRefusedOver S.Store conn.old conn.new result IsProject }
-    ensures plan { ForEachProject S.Store conn.old conn.new (PlansFor AskUpgrade result) }
+    ensures reads { PlansProject S.Store conn.old conn.new result (PlansFor AskUpgrade) IsProject }
 {
     let version = known_version(conn)?;
     plan_upgrade(conn, alloc, version)

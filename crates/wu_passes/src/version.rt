@@ -1,8 +1,8 @@
 //! The version of the tables that a command finds.
 
-ghost use Rattle.wu_plans.specs.Planning.{NeverEnded, TellsVersion};
+ghost use Rattle.wu_plans.specs.Planning.{TellsVersion, PlansWorld};
 ghost use Rattle.wu_machine.specs.Sound.{IsProject};
-ghost use Rattle.wu_store.specs.Loading.{Asks, NotRefusedIn, ForEachWorld, ServesUnlessFailed};
+ghost use Rattle.wu_store.specs.Loading.{ServesUnlessFailed};
 
 use sqlite::{Alter, Connection};
 use wu_core::Fault;
@@ -12,17 +12,11 @@ use wu_schema::{check_version, version_of};
 ///
 /// A later version is `NewSchema`. `NotAProject` means that no project is there any more.
 pub fn known_version<S: Alter>(conn: &mut Connection<S>) -> Result<u64, Fault>
-    // It only reads: nothing is committed or changed, and `Broken` means a failed disk or a
-    // connection that was not open.
-    ensures asks { Asks S.Store conn.old conn.new result }
     // The connection is open afterwards, except after `Memory` and `Broken`.
     ensures opens { ServesUnlessFailed S.Store conn.new result }
-    // It never answers `Ended`.
-    ensures never { NeverEnded result }
-    // Without a limit on steps, over a world that commands run over, `NotAProject` is not returned.
-    ensures unrefused { NotRefusedIn S.Store conn.old conn.new result IsProject }
     // The version is that of each world that the tables represent.
-    ensures version { ForEachWorld S.Store conn.old conn.new (TellsVersion result) }
+    // Without a limit on steps, over a world that commands run over, `NotAProject` is not returned.
+    ensures reads { PlansWorld S.Store conn.old conn.new result TellsVersion IsProject }
 {
     let Some(version) = version_of(conn)? else {
         return Err(Fault::NotAProject);

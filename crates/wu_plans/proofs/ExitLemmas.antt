@@ -85,3 +85,9 @@ serves_open (Err fault) still = inr still
 pub serves_handed : {U Q : Type 0} (r : Result U Fault) (fault : Fault) → IsErrAnd r (λ other. other ≡ fault) → IsFailure fault ⊎ Q → MatchResult r (λ _. Q) (λ fault. IsFailure fault ⊎ Q)
 serves_handed (Ok y) fault same serves = absurd same
 serves_handed {U} {Q} (Err other) fault same serves = subst (λ f. IsFailure f ⊎ Q) (sym same) serves
+
+-- a fault of the store is not that the session has ended
+pub store_going : (fault : Fault) → IsStoreFault fault → fault ≢ Ended
+store_going fault (inl memory) is = let no = sym memory ∙ is in cc
+store_going fault (inr (inl broken)) is = let no = sym broken ∙ is in cc
+store_going fault (inr (inr refused)) is = let no = sym refused ∙ is in cc

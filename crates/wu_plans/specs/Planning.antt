@@ -1,11 +1,10 @@
 -- The plan of a command: its answer and its changes, computed before anything is changed.
 use Rattle.std.specs.Prelude.{◌≡◌, ◌≢◌, ◌⊎◌, ℕ, ◌+◌, ◌==◌, ◌&&◌, Bool, true, false, bytes_eq, if◌then◌else◌, List, [], ◌∷◌, ◌++◌, map, length, Some, None, Result, Ok, Err, find, IfErr, IfOk, MatchResult}
 use Rattle.std.specs.List.{enumerate_from}
-use Rattle.sqlite.specs.Held.{Held, state}
-use Rattle.sqlite.specs.State.{HasCleanDisk}
+use Rattle.sqlite.specs.Held.{Held}
 use Rattle.sqlite.specs.Store.{Ghosts}
 use Rattle.wu_core.specs.declared.fault.Fault.{Fault}
-use Rattle.wu_core.specs.declared.fault.Fault.TheVariants.{Memory, Ended, NameUsed, NotAProject, NotOpenToCancel, WorkunitUsed}
+use Rattle.wu_core.specs.declared.fault.Fault.TheVariants.{Memory, Ended, NameUsed, NotOpenToCancel, WorkunitUsed}
 use Rattle.wu_core.specs.declared.workunit.HostClass.{HostClass}
 use Rattle.wu_core.specs.declared.workunit.Workunit.{Workunit}
 use Rattle.wu_core.specs.Classes.{AreClassed}
@@ -21,6 +20,7 @@ use Rattle.wu_feed.specs.Templates.{template_of}
 use Rattle.wu_store.specs.Changes.{with_import}
 use Rattle.wu_store.specs.Loading.{IsStoreFault}
 use Rattle.wu_store.specs.StandsFor.{KnowsClasses, StandsFor}
+use Rattle.wu_store.specs.Reads.{Reads}
 use Rattle.wu_schema.specs.declared.rows.StoredImport.{StoredImport}
 use Rattle.wu_schema.specs.Refines.{Refines}
 use Rattle.wu_plans.specs.declared.plan.Plan.{Plan}
@@ -152,19 +152,14 @@ pub record IsNewClasses (given : Given) (rows : List HostClass) (plan : Plan) : 
 
 -- ---- what a call that reads reports of the tables, and of each world that they represent
 
--- If the tables represent a world and steps have no limit, no read is refused.
-abbrev pub NeverRefused : {S T : Type 0} → Ghosts S → Held S → Held S → Result T Fault → Type 0
-NeverRefused g old new result =
-    HasCleanDisk (state g new) → (world : World) → Refines (state g old).now world → old.step_limit ≡ None → IfErr result (λ fault. fault ≢ NotAProject)
+module _ {S T : Type 0} (g : Ghosts S) (old new : Held S) (result : Result T Fault) (Finds : Result T Fault → World → Type 0) (Can : World → Type 0) where
+  -- A plan: it only reads, the tables represent the world, and the fault is not that the session has ended.
+  abbrev pub PlansWorld : Type 0
+  PlansWorld = Reads g old new result (λ fault. fault ≢ Ended) Refines Finds Can
 
--- On a clean disk, this holds of each world that the tables represent, with its queue.
-abbrev pub ForEachProject : {S : Type 0} → Ghosts S → Held S → Held S → (World → Type 0) → Type 0
-ForEachProject g old new Is = HasCleanDisk (state g new) → (world : World) → StandsFor (state g old).now world → Is world
-
--- If the tables represent such a world and steps have no limit, no read is refused.
-abbrev pub NotRefusedOver : {S T : Type 0} → Ghosts S → Held S → Held S → Result T Fault → (World → Type 0) → Type 0
-NotRefusedOver g old new result Is =
-    HasCleanDisk (state g new) → (world : World) → StandsFor (state g old).now world → Is world → old.step_limit ≡ None → IfErr result (λ fault. fault ≢ NotAProject)
+  -- Likewise of a world with its queue.
+  abbrev pub PlansProject : Type 0
+  PlansProject = Reads g old new result (λ fault. fault ≢ Ended) StandsFor Finds Can
 
 -- The answer is whether the name is taken by a workunit or an archived row, or it is a fault of the store.
 abbrev pub KnowsTaken : List ℕ → Result Bool Fault → World → Type 0

@@ -1,15 +1,17 @@
 //! A batch: what it answers and what it changes, before anything is changed.
 
-ghost use Rattle.std.specs.Prelude.{◌≡◌, ◌+◌, ◌≤◌, ◌==◌, bytes_eq, length, if◌then◌else◌, IfOk, IfErr};
+ghost use Rattle.std.specs.Prelude.{⊤, ◌≡◌, ◌+◌, ◌≤◌, ◌==◌, bytes_eq, length, if◌then◌else◌, IfOk, IfErr};
 ghost use Rattle.std.specs.List.{list_any};
 ghost use Rattle.wu_core.specs.declared.fault.Fault.TheVariants.{Memory};
 ghost use Rattle.wu_core.specs.Limits.{most_workunits};
 ghost use Rattle.wu_feed.specs.Limits.{most_rows};
 ghost use Rattle.wu_machine.specs.Batches.{new_workunit};
-ghost use Rattle.wu_plans.specs.Planning.{additions, FindsFree, IsNewBatch, KnowsTaken, KnowsUsed, NeverEnded, NeverRefused, PlansBatch, PlansJobs, PlansNew, RefusesName};
+ghost use Rattle.wu_plans.specs.Planning.{additions, FindsFree, IsNewBatch, KnowsTaken, KnowsUsed, PlansBatch, PlansJobs, PlansNew, RefusesName, PlansWorld};
 ghost use Rattle.wu_machine.specs.Commands.{batch_of};
 ghost use Rattle.wu_machine.specs.Sound.{IsProject};
-ghost use Rattle.wu_store.specs.Loading.{Asks, IsStoreFault, NotRefusedIn, ForEachWorld, ServesUnlessFailed};
+ghost use Rattle.wu_schema.specs.Refines.{Refines};
+ghost use Rattle.wu_store.specs.Reads.{Reads, ReadsWorld};
+ghost use Rattle.wu_store.specs.Loading.{ServesUnlessFailed};
 
 use crate::imports::{applied, batch_source, imported, kept, repeated};
 use crate::plan::Plan;
@@ -25,12 +27,9 @@ use wu_store::{Change, has_archived, has_workunit, import_of, next_number};
 
 /// Returns whether the name belongs to a workunit that is present, or that was archived.
 fn is_taken<S: Alter>(conn: &mut Connection<S>, name: &Name) -> Result<bool, Fault>
-    ensures asks { Asks S.Store conn.old conn.new result }
     ensures opens { ServesUnlessFailed S.Store conn.new result }
-    ensures fault { IfErr result IsStoreFault }
     // Over a represented world, with no limit on steps, no read is refused.
-    ensures unrefused { NeverRefused S.Store conn.old conn.new result }
-    ensures taken { ForEachWorld S.Store conn.old conn.new (KnowsTaken name.now result) }
+    ensures reads { ReadsWorld S.Store conn.old conn.new result (KnowsTaken name.now) (λ _. ⊤) }
 {
     if has_workunit(conn, name)? {
         return Ok(true);
@@ -47,10 +46,8 @@ fn has_job(jobs: &[Job], name: &Name) -> bool
 
 /// Returns whether the name belongs to a workunit, an archived row or one of these jobs.
 fn is_used<S: Alter>(conn: &mut Connection<S>, earlier: &[Job], name: &Name) -> Result<bool, Fault>
-    ensures asks { Asks S.Store conn.old conn.new result }
-    ensures fault { IfErr result IsStoreFault }
-    ensures unrefused { NeverRefused S.Store conn.old conn.new result }
-    ensures used { ForEachWorld S.Store conn.old conn.new (KnowsUsed earlier.now name.now result) }
+    ensures { ReadsWorld S.Store conn.old conn.new result (KnowsUsed earlier.now name.now)
+        (λ _. ⊤) }
 {
     if has_job(earlier, name) {
         return Ok(true);
@@ -61,11 +58,9 @@ fn is_used<S: Alter>(conn: &mut Connection<S>, earlier: &[Job], name: &Name) -> 
 /// Refuses the first job whose name is that of a workunit, an archived row or an earlier job.
 fn check_names<S: Alter>(conn: &mut Connection<S>, jobs: &[Job]) -> Result<(), Fault>
     requires { length jobs.now ≤ most_rows }
-    ensures asks { Asks S.Store conn.old conn.new result }
-    ensures fault { IfErr result RefusesName }
     // Over a represented world, with no limit on steps, no read is refused.
-    ensures unrefused { NeverRefused S.Store conn.old conn.new result }
-    ensures free { ForEachWorld S.Store conn.old conn.new (FindsFree jobs.now result) }
+    ensures { Reads S.Store conn.old conn.new result RefusesName Refines (FindsFree jobs.now)
+        (λ _. ⊤) }
 {
     let mut place = 0;
     for job in jobs {
@@ -161,10 +156,8 @@ fn plan_jobs<'a, S: Alter>(
     jobs: Jobs,
 ) -> Result<Plan<'a>, Fault>
     requires { length jobs ≤ most_rows }
-    ensures asks { Asks S.Store conn.old conn.new result }
-    ensures never { NeverEnded result }
-    ensures unrefused { NotRefusedIn S.Store conn.old conn.new result IsProject }
-    ensures plan { ForEachWorld S.Store conn.old conn.new (PlansJobs batch.now params jobs result) }
+    ensures { PlansWorld S.Store conn.old conn.new result (PlansJobs batch.now params jobs)
+        IsProject }
 {
     check_names(conn, jobs.as_slice())?;
     let next = next_number(conn)?;
@@ -180,10 +173,7 @@ fn plan_new<'a, S: Alter>(
     alloc: Global,
     batch: &'a Batch,
 ) -> Result<Plan<'a>, Fault>
-    ensures asks { Asks S.Store conn.old conn.new result }
-    ensures never { NeverEnded result }
-    ensures unrefused { NotRefusedIn S.Store conn.old conn.new result IsProject }
-    ensures plan { ForEachWorld S.Store conn.old conn.new (PlansNew batch.now result) }
+    ensures { PlansWorld S.Store conn.old conn.new result (PlansNew batch.now) IsProject }
 {
     let params = read_template(alloc, batch.template.as_slice())?;
     let jobs = read_jobs(alloc, batch.file.as_slice())?;
@@ -197,18 +187,12 @@ pub fn plan_batch<'a, S: Alter>(
     alloc: Global,
     batch: &'a Batch,
 ) -> Result<Plan<'a>, Fault>
-    // It only reads: nothing is committed or changed, and `Broken` means a failed disk or a
-    // connection that was not open.
-    ensures asks { Asks S.Store conn.old conn.new result }
     // The connection is open afterwards, except after `Memory` and `Broken`.
     ensures opens { ServesUnlessFailed S.Store conn.new result }
-    // It never answers `Ended`.
-    ensures never { NeverEnded result }
-    // Over a project, with no limit on steps, no read is refused.
-    ensures unrefused { NotRefusedIn S.Store conn.old conn.new result IsProject }
     // The plan answers the machine's reply and makes the machine's step; or it is the machine's
     // refusal, or a fault of the store.
-    ensures plan { ForEachWorld S.Store conn.old conn.new (PlansBatch batch.now result) }
+    // Over a project, with no limit on steps, no read is refused.
+    ensures reads { PlansWorld S.Store conn.old conn.new result (PlansBatch batch.now) IsProject }
 {
     match import_of(conn, alloc, ImportKind::Batch, &batch.name)? {
         Some(earlier) => repeated(alloc, &batch_source(batch), earlier),

@@ -1,9 +1,9 @@
 //! Giving a workunit up: what it answers and what it changes, before anything is changed.
 
 ghost use Rattle.std.specs.Prelude.{◌≡◌, IfErr, IfOk};
-ghost use Rattle.wu_plans.specs.Planning.{IsCancelPlan, IsPresentProject, NeverEnded, PlansNow, RefusesCancel};
+ghost use Rattle.wu_plans.specs.Planning.{IsCancelPlan, IsPresentProject, PlansNow, RefusesCancel, PlansWorld};
 ghost use Rattle.wu_machine.specs.Requests.{AskCancel};
-ghost use Rattle.wu_store.specs.Loading.{Asks, NotRefusedIn, ForEachWorld, ServesUnlessFailed};
+ghost use Rattle.wu_store.specs.Loading.{ServesUnlessFailed};
 
 use crate::copies::copy_of;
 use crate::plan::Plan;
@@ -39,18 +39,13 @@ pub fn plan_cancel<'a, S: Alter>(
     alloc: Global,
     name: &Name,
 ) -> Result<Plan<'a>, Fault>
-    // It only reads: nothing is committed or changed, and `Broken` means a failed disk or a
-    // connection that was not open.
-    ensures asks { Asks S.Store conn.old conn.new result }
     // The connection is open afterwards, except after `Memory` and `Broken`.
     ensures opens { ServesUnlessFailed S.Store conn.new result }
-    // It never answers `Ended`.
-    ensures never { NeverEnded result }
-    // Over a project of the present version, with no limit on steps, no read is refused.
-    ensures unrefused { NotRefusedIn S.Store conn.old conn.new result IsPresentProject }
     // The plan gives an undecided workunit up; another one, or an unknown name, is refused as the
     // machine does; or a fault of the store.
-    ensures plan { ForEachWorld S.Store conn.old conn.new (PlansNow (AskCancel name.now) result) }
+    // Over a project of the present version, with no limit on steps, no read is refused.
+    ensures reads { PlansWorld S.Store conn.old conn.new result (PlansNow (AskCancel name.now))
+        IsPresentProject }
 {
     match load_named(conn, alloc, name)? {
         Some(workunit) => give_up(alloc, workunit),

@@ -3,8 +3,8 @@
 ghost use Rattle.std.specs.Prelude.{◌≡◌, IfErr, IfOk, map};
 ghost use Rattle.wu_core.specs.declared.fault.Fault.TheVariants.{Memory};
 ghost use Rattle.wu_machine.specs.Requests.{AskClasses};
-ghost use Rattle.wu_plans.specs.Planning.{given_of, IsNewClasses, IsPresentProject, NeverEnded, PlansNow, sets_class};
-ghost use Rattle.wu_store.specs.Loading.{Asks, NotRefusedIn, ForEachWorld, ServesUnlessFailed};
+ghost use Rattle.wu_plans.specs.Planning.{given_of, IsNewClasses, IsPresentProject, PlansNow, sets_class, PlansWorld};
+ghost use Rattle.wu_store.specs.Loading.{ServesUnlessFailed};
 
 use crate::imports::{Source, applied, file_source, imported, kept, repeated};
 use crate::plan::Plan;
@@ -51,19 +51,13 @@ pub fn plan_classes<'a, S: Alter>(
     alloc: Global,
     file: &'a RowsFile,
 ) -> Result<Plan<'a>, Fault>
-    // It only reads: nothing is committed or changed, and `Broken` means a failed disk or a
-    // connection that was not open.
-    ensures asks { Asks S.Store conn.old conn.new result }
     // The connection is open afterwards, except after `Memory` and `Broken`.
     ensures opens { ServesUnlessFailed S.Store conn.new result }
-    // It never answers `Ended`.
-    ensures never { NeverEnded result }
-    // Over a project of the present version, with no limit on steps, no read is refused.
-    ensures unrefused { NotRefusedIn S.Store conn.old conn.new result IsPresentProject }
     // The plan answers the machine's reply and makes the machine's step; or it is the machine's
     // refusal, or a fault of the store.
-    ensures plan { ForEachWorld S.Store conn.old conn.new
-        (PlansNow (AskClasses file.now.name file.now.file) result) }
+    // Over a project of the present version, with no limit on steps, no read is refused.
+    ensures reads { PlansWorld S.Store conn.old conn.new result
+        (PlansNow (AskClasses file.now.name file.now.file)) IsPresentProject }
 {
     let source = file_source(ImportKind::Classes, file);
     match import_of(conn, alloc, ImportKind::Classes, &file.name)? {

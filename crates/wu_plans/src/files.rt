@@ -3,10 +3,11 @@
 ghost use Rattle.std.specs.Prelude.{◌≡◌, ◌≤◌, All, IfOk, IfErr};
 ghost use Rattle.wu_core.specs.declared.fault.Fault.TheVariants.{Memory};
 ghost use Rattle.wu_core.specs.declared.import.ImportKind.TheVariants as kind;
-ghost use Rattle.wu_plans.specs.Planning.{given_of, IsNewFile, IsPresentProject, LeavesRows, NeverEnded, PlansNow, PlansRows, TakesRows};
+ghost use Rattle.wu_plans.specs.Planning.{given_of, IsNewFile, IsPresentProject, LeavesRows, PlansNow, PlansRows, TakesRows, PlansWorld};
 ghost use Rattle.wu_machine.specs.Requests.{AskReported, AskSent};
 ghost use Rattle.wu_plans.specs.Touched.{LeavesRow, rule_in, TouchesNamed};
-ghost use Rattle.wu_store.specs.Loading.{Asks, IsStoreFault, LoadsNamed, NotRefusedIn, ForEachWorld, ServesUnlessFailed};
+ghost use Rattle.wu_store.specs.Reads.{ReadsWorld};
+ghost use Rattle.wu_store.specs.Loading.{LoadsNamed, ServesUnlessFailed};
 
 use crate::imports::{Source, file_source, imported, kept, repeated};
 use crate::plan::Plan;
@@ -32,13 +33,10 @@ fn touch<S: Alter>(
     touched: &mut Touched,
     name: &Name,
 ) -> Result<(), Fault>
-    ensures asks { Asks S.Store conn.old conn.new result }
-    ensures fault { IfErr result IsStoreFault }
     // Over a world whose workunit of this name can be read, with no limit on steps, no read is
     // refused.
-    ensures unrefused { NotRefusedIn S.Store conn.old conn.new result (LoadsNamed name.now) }
-    ensures touches { ForEachWorld S.Store conn.old conn.new
-        (TouchesNamed name.now touched.old touched.new result) }
+    ensures { ReadsWorld S.Store conn.old conn.new result
+        (TouchesNamed name.now touched.old touched.new) (LoadsNamed name.now) }
 {
     if touched.has(name) {
         return Ok(());
@@ -57,15 +55,12 @@ fn apply_row<R: FileRow, S: Alter>(
     touched: &mut Touched,
     row: R,
 ) -> Result<u8, Fault>
-    ensures asks { Asks S.Store conn.old conn.new result }
-    ensures fault { IfErr result IsStoreFault }
-    // Over a world whose workunits and classes can be read, with no limit on steps, no read is
-    // refused.
-    ensures unrefused { NotRefusedIn S.Store conn.old conn.new result TakesRows }
     ensures digit { IfOk result (λ verdict. verdict ≤ 9) }
     // The row sees what the rows before it left, and a send the class of its host in the world.
-    ensures left { ForEachWorld S.Store conn.old conn.new
-        (LeavesRow (rule_in R.rule R.class_in) row touched.old touched.new result) }
+    // Over a world whose workunits and classes can be read, with no limit on steps, no read is
+    // refused.
+    ensures reads { ReadsWorld S.Store conn.old conn.new result
+        (LeavesRow (rule_in R.rule R.class_in) row touched.old touched.new) TakesRows }
 {
     touch(conn, alloc, touched, row.workunit())?;
     let class = row.find_class(conn)?;
@@ -78,15 +73,12 @@ fn apply_rows<R: FileRow, S: Alter>(
     alloc: Global,
     rows: Rows<R>,
 ) -> Result<AppliedRows, Fault>
-    ensures asks { Asks S.Store conn.old conn.new result }
-    ensures fault { IfErr result IsStoreFault }
-    // Over a world whose workunits and classes can be read, with no limit on steps, no read is
-    // refused.
-    ensures unrefused { NotRefusedIn S.Store conn.old conn.new result TakesRows }
     ensures digits { IfOk result (λ left. All (λ verdict. verdict ≤ 9) left.verdicts.items) }
     // Each row sees what the rows before it left; the verdicts are theirs.
-    ensures left { ForEachWorld S.Store conn.old conn.new
-        (LeavesRows (rule_in R.rule R.class_in) rows result) }
+    // Over a world whose workunits and classes can be read, with no limit on steps, no read is
+    // refused.
+    ensures reads { ReadsWorld S.Store conn.old conn.new result
+        (LeavesRows (rule_in R.rule R.class_in) rows) TakesRows }
 {
     let mut touched = Touched::new(alloc);
     let mut verdicts = Vec::new(alloc);
@@ -120,13 +112,10 @@ fn plan_rows<'a, R: FileRow, S: Alter>(
     source: &Source<'a>,
     rows: Rows<R>,
 ) -> Result<Plan<'a>, Fault>
-    ensures asks { Asks S.Store conn.old conn.new result }
-    ensures fault { IfErr result IsStoreFault }
-    ensures unrefused { NotRefusedIn S.Store conn.old conn.new result TakesRows }
     // The rows are applied or skipped in order, and the file is kept with their verdicts; or a
     // fault of the store.
-    ensures plan { ForEachWorld S.Store conn.old conn.new
-        (PlansRows (rule_in R.rule R.class_in) (given_of source.now) rows result) }
+    ensures { ReadsWorld S.Store conn.old conn.new result
+        (PlansRows (rule_in R.rule R.class_in) (given_of source.now) rows) TakesRows }
 {
     let left = apply_rows(conn, alloc, rows)?;
     new_file(alloc, source, left)
@@ -139,19 +128,13 @@ pub fn plan_sent<'a, S: Alter>(
     alloc: Global,
     file: &'a RowsFile,
 ) -> Result<Plan<'a>, Fault>
-    // It only reads: nothing is committed or changed, and `Broken` means a failed disk or a
-    // connection that was not open.
-    ensures asks { Asks S.Store conn.old conn.new result }
     // The connection is open afterwards, except after `Memory` and `Broken`.
     ensures opens { ServesUnlessFailed S.Store conn.new result }
-    // It never answers `Ended`.
-    ensures never { NeverEnded result }
-    // Over a project of the present version, with no limit on steps, no read is refused.
-    ensures unrefused { NotRefusedIn S.Store conn.old conn.new result IsPresentProject }
     // The plan answers the machine's reply and makes its step, skipped rows changing nothing; or
     // the machine's refusal, or a fault of the store.
-    ensures plan { ForEachWorld S.Store conn.old conn.new
-        (PlansNow (AskSent file.now.name file.now.file) result) }
+    // Over a project of the present version, with no limit on steps, no read is refused.
+    ensures reads { PlansWorld S.Store conn.old conn.new result
+        (PlansNow (AskSent file.now.name file.now.file)) IsPresentProject }
 {
     let source = file_source(ImportKind::Sent, file);
     match import_of(conn, alloc, ImportKind::Sent, &file.name)? {
@@ -172,19 +155,13 @@ pub fn plan_reported<'a, S: Alter>(
     alloc: Global,
     file: &'a RowsFile,
 ) -> Result<Plan<'a>, Fault>
-    // It only reads: nothing is committed or changed, and `Broken` means a failed disk or a
-    // connection that was not open.
-    ensures asks { Asks S.Store conn.old conn.new result }
     // The connection is open afterwards, except after `Memory` and `Broken`.
     ensures opens { ServesUnlessFailed S.Store conn.new result }
-    // It never answers `Ended`.
-    ensures never { NeverEnded result }
-    // Over a project of the present version, with no limit on steps, no read is refused.
-    ensures unrefused { NotRefusedIn S.Store conn.old conn.new result IsPresentProject }
     // The plan answers the machine's reply and makes its step, skipped rows changing nothing; or
     // the machine's refusal, or a fault of the store.
-    ensures plan { ForEachWorld S.Store conn.old conn.new
-        (PlansNow (AskReported file.now.name file.now.file) result) }
+    // Over a project of the present version, with no limit on steps, no read is refused.
+    ensures reads { PlansWorld S.Store conn.old conn.new result
+        (PlansNow (AskReported file.now.name file.now.file)) IsPresentProject }
 {
     let source = file_source(ImportKind::Reported, file);
     match import_of(conn, alloc, ImportKind::Reported, &file.name)? {

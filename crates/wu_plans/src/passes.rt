@@ -1,14 +1,15 @@
 //! A pass: what it makes of the workunits that it takes, what it answers and what it changes, before anything is
 //! changed.
 
-ghost use Rattle.std.specs.Prelude.{◌≡◌, ◌+◌, ◌≤◌, ◌^◌, ◌++◌, [], true, length, map, None, IfErr, IfOk};
+ghost use Rattle.std.specs.Prelude.{⊤, ◌≡◌, ◌+◌, ◌≤◌, ◌^◌, ◌++◌, [], true, length, map, None, IfErr, IfOk};
 ghost use Rattle.wu_core.specs.declared.fault.Fault.TheVariants.{Memory};
 ghost use Rattle.wu_machine.specs.Machine.{is_limit_right};
 ghost use Rattle.wu_plans.specs.PassPlans.{asked, AddsArchivedRows, AddsFrom, AddsGrants, AddsGiven, HandlesAll, HandlesAlso, IsImageOf, PlansTaken};
-ghost use Rattle.wu_plans.specs.Planning.{ForEachProject, IsPresentProject, NeverEnded, NeverRefused, NotRefusedOver, PlansNow};
+ghost use Rattle.wu_plans.specs.Planning.{IsPresentProject, PlansNow, PlansProject};
 ghost use Rattle.wu_machine.specs.Requests.{AskPass};
+ghost use Rattle.wu_store.specs.Reads.{ReadsWorld};
 ghost use Rattle.wu_store.specs.Changing.{archived_from};
-ghost use Rattle.wu_store.specs.Loading.{Asks, IsStoreFault, ForEachWorld, ServesUnlessFailed};
+ghost use Rattle.wu_store.specs.Loading.{Asks, ServesUnlessFailed};
 ghost use Rattle.wu_rules.specs.declared.due.Pass.TheVariants as pass;
 ghost use Rattle.wu_store.specs.declared.changes.Change.TheVariants.{Remove};
 
@@ -274,12 +275,9 @@ fn and_grants<S: Alter>(
     changes: &mut Vec<Change<'_>>,
     grants: Vec<Grant>,
 ) -> Result<(), Fault>
-    ensures asks { Asks S.Store conn.old conn.new result }
-    ensures fault { IfErr result IsStoreFault }
-    ensures unrefused { NeverRefused S.Store conn.old conn.new result }
     // The grants get the next places of the world's, in order.
-    ensures added { ForEachWorld S.Store conn.old conn.new
-        (AddsGrants grants.items changes.old.items changes.new.items result) }
+    ensures { ReadsWorld S.Store conn.old conn.new result
+        (AddsGrants grants.items changes.old.items changes.new.items) (λ _. ⊤) }
 {
     if grants.is_empty() {
         return Ok(());
@@ -294,12 +292,9 @@ fn and_archived<S: Alter>(
     changes: &mut Vec<Change<'_>>,
     archived: Vec<Archived>,
 ) -> Result<(), Fault>
-    ensures asks { Asks S.Store conn.old conn.new result }
-    ensures fault { IfErr result IsStoreFault }
-    ensures unrefused { NeverRefused S.Store conn.old conn.new result }
     // The archived rows get the next places of the world's, in order.
-    ensures added { ForEachWorld S.Store conn.old conn.new
-        (AddsArchivedRows archived.items changes.old.items changes.new.items result) }
+    ensures { ReadsWorld S.Store conn.old conn.new result
+        (AddsArchivedRows archived.items changes.old.items changes.new.items) (λ _. ⊤) }
 {
     if archived.is_empty() {
         return Ok(());
@@ -314,12 +309,9 @@ fn changes_of<'a, S: Alter>(
     alloc: Global,
     handled: Handled<'a>,
 ) -> Result<Vec<Change<'a>>, Fault>
-    ensures asks { Asks S.Store conn.old conn.new result }
-    ensures fault { IfErr result IsStoreFault }
-    ensures unrefused { NeverRefused S.Store conn.old conn.new result }
     // The changes are those of the workunits, then the grants and the archived rows at the world's
     // next places.
-    ensures added { ForEachWorld S.Store conn.old conn.new (AddsGiven handled.entry result) }
+    ensures { ReadsWorld S.Store conn.old conn.new result (AddsGiven handled.entry) (λ _. ⊤) }
 {
     let Handled {
         mut changes,
@@ -339,11 +331,9 @@ fn plan_taken<'a, S: Alter>(
     taken: Vec<Workunit>,
 ) -> Result<Plan<'a>, Fault>
     requires { length taken.items ≤ 1000 }
-    ensures asks { Asks S.Store conn.old conn.new result }
-    ensures fault { IfErr result IsStoreFault }
     // Over a represented world, with no limit on steps, no read is refused.
-    ensures unrefused { NeverRefused S.Store conn.old conn.new result }
-    ensures plan { ForEachWorld S.Store conn.old conn.new (PlansTaken ask.now taken.items result) }
+    ensures { ReadsWorld S.Store conn.old conn.new result (PlansTaken ask.now taken.items)
+        (λ _. ⊤) }
 {
     let pass = ask.pass;
     let count = taken.len() as u32;
@@ -378,11 +368,9 @@ fn plan_purge<'a, S: Alter>(
 ) -> Result<Plan<'a>, Fault>
     requires right { is_limit_right ask.now.pass ask.now.limit ask.now.min_age ≡ true }
     requires purge { ask.now.pass ≡ pass.Purge }
-    ensures asks { Asks S.Store conn.old conn.new result }
     ensures opens { ServesUnlessFailed S.Store conn.new result }
-    ensures never { NeverEnded result }
-    ensures unrefused { NotRefusedOver S.Store conn.old conn.new result IsPresentProject }
-    ensures plan { ForEachProject S.Store conn.old conn.new (PlansNow (asked ask.now) result) }
+    ensures reads { PlansProject S.Store conn.old conn.new result (PlansNow (asked ask.now))
+        IsPresentProject }
 {
     let numbers = due_numbers(conn, alloc, ask.pass, ask.moment, ask.min_age, ask.limit)?;
     let count = numbers.len() as u32;
@@ -403,11 +391,9 @@ fn plan_images<'a, S: Alter>(
     ask: &Ask,
 ) -> Result<Plan<'a>, Fault>
     requires { is_limit_right ask.now.pass ask.now.limit ask.now.min_age ≡ true }
-    ensures asks { Asks S.Store conn.old conn.new result }
     ensures opens { ServesUnlessFailed S.Store conn.new result }
-    ensures never { NeverEnded result }
-    ensures unrefused { NotRefusedOver S.Store conn.old conn.new result IsPresentProject }
-    ensures plan { ForEachProject S.Store conn.old conn.new (PlansNow (asked ask.now) result) }
+    ensures reads { PlansProject S.Store conn.old conn.new result (PlansNow (asked ask.now))
+        IsPresentProject }
 {
     let taken = load_due(conn, alloc, ask.pass, ask.moment, ask.min_age, ask.limit)?;
     plan_taken(conn, alloc, ask, taken)
@@ -424,18 +410,13 @@ pub fn plan_pass<'a, S: Alter>(
 ) -> Result<Plan<'a>, Fault>
     // The limit is from 1 to 1000, and the least age of a purge at most a year.
     requires { is_limit_right ask.now.pass ask.now.limit ask.now.min_age ≡ true }
-    // It only reads: nothing is committed or changed, and `Broken` means a failed disk or a
-    // connection that was not open.
-    ensures asks { Asks S.Store conn.old conn.new result }
     // The connection is open afterwards, except after `Memory` and `Broken`.
     ensures opens { ServesUnlessFailed S.Store conn.new result }
-    // It never answers `Ended`.
-    ensures never { NeverEnded result }
-    // Over a project of the present version, with no limit on steps, no read is refused.
-    ensures unrefused { NotRefusedOver S.Store conn.old conn.new result IsPresentProject }
     // The plan answers the number of its workunits and makes the machine's step, each image in its
     // place; or a fault of the store.
-    ensures plan { ForEachProject S.Store conn.old conn.new (PlansNow (asked ask.now) result) }
+    // Over a project of the present version, with no limit on steps, no read is refused.
+    ensures reads { PlansProject S.Store conn.old conn.new result (PlansNow (asked ask.now))
+        IsPresentProject }
 {
     match ask.pass {
         Pass::Purge => plan_purge(conn, alloc, ask),

@@ -22,8 +22,7 @@ pub trait FileRow: Drop {
     ghost use Rattle.wu_core.specs.Classes.{AreClassed};
     ghost use Rattle.wu_core.specs.declared.workunit.HostClass.{HostClass};
     ghost use Rattle.wu_machine.specs.FileRows.{KeepsIdentity, Rule, unknown};
-    ghost use Rattle.wu_store.specs.Classes.{AnswersClass, NotRefusedClass};
-    ghost use Rattle.wu_store.specs.Loading.{Asks, IsStoreFault};
+    ghost use Rattle.wu_store.specs.Reads.{FindsAt, ReadsClassed};
 
     /// The class on which the verdict on a row depends, where hosts have these classes.
     ghost class_in: { List HostClass → Self → ℕ };
@@ -38,16 +37,10 @@ pub trait FileRow: Drop {
 
     /// Reads from the tables the class on which the verdict on the row depends.
     fn find_class<S: Alter>(&self, conn: &mut Connection<S>) -> Result<u32, Fault>
-        // It only reads: nothing is committed or changed, and `Broken` means a failed disk or a
-        // connection that was not open.
-        ensures asks { Asks S.Store conn.old conn.new result }
-        // A fault is `Memory`, `Broken` or `NotAProject`.
-        ensures fault { IfErr result IsStoreFault }
         // For a send the class is that of its host in the world; a report needs none, and gets 0.
-        ensures found { AnswersClass S.Store conn.old conn.new result
-            (λ world. class_in world.classes self.now) }
         // Over a world whose classes can be read, with no limit on steps, no read is refused.
-        ensures unrefused { NotRefusedClass S.Store conn.old conn.new result
+        ensures { ReadsClassed S.Store conn.old conn.new result
+            (FindsAt (λ world. class_in world.classes self.now))
             (λ world. AreClassed world.classes) };
 
     /// Returns the number of the verdict on such a row whose workunit is not present.

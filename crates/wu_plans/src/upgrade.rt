@@ -1,7 +1,7 @@
 //! What bringing a project's schema to the present version answers and changes, before anything is changed.
 
-ghost use Rattle.wu_plans.specs.Planning.{IsOfVersion, NeverEnded, PlansUpgrade};
-ghost use Rattle.wu_store.specs.Loading.{Asks, NotRefusedIn, ForEachWorld, StaysUnlessFailed};
+ghost use Rattle.wu_plans.specs.Planning.{IsOfVersion, PlansUpgrade, PlansWorld};
+ghost use Rattle.wu_store.specs.Loading.{StaysUnlessFailed};
 
 use crate::plan::Plan;
 use sqlite::{Alter, Connection};
@@ -19,18 +19,13 @@ pub fn plan_upgrade<'a, S: Alter>(
     alloc: Global,
     version: u64,
 ) -> Result<Plan<'a>, Fault>
-    // It only reads: nothing is committed or changed, and `Broken` means a failed disk or a
-    // connection that was not open.
-    ensures asks { Asks S.Store conn.old conn.new result }
     // An open connection stays open, except after `Memory` and `Broken`.
     ensures opens { StaysUnlessFailed S.Store conn.old conn.new result }
-    // It never answers `Ended`.
-    ensures never { NeverEnded result }
-    // Over a project of this version, with no limit on steps, no read is refused.
-    ensures unrefused { NotRefusedIn S.Store conn.old conn.new result (IsOfVersion version) }
     // The plan answers this version and the present one, at which the world then is; at the present
     // version it changes nothing.
-    ensures plan { ForEachWorld S.Store conn.old conn.new (PlansUpgrade version result) }
+    // Over a project of this version, with no limit on steps, no read is refused.
+    ensures reads { PlansWorld S.Store conn.old conn.new result (PlansUpgrade version)
+        (IsOfVersion version) }
 {
     let answer = Answer::Upgraded {
         from: version,

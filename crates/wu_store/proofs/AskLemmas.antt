@@ -1,8 +1,8 @@
 -- A SELECT of ours, whole: what it does to the connection, what it answers, and that it is not refused.
-use Rattle.wu_schema.proofs.Words.{Bool, Err, Error, FailsToQuery, Fault, Ghosts, HasCleanDisk, Held, IfErr, IsErrAnd, IsFailure, IsSome, IsTrue, List, None, NotAProject, Ok, Option, Result, Row, Shown, Some, Refines, State, Vec, World, [], arith, fault_of, inl, inr, length, not, option_to_list, refl, state, subst, sym, ℕ, ⊤, ◌++◌, ◌<◌, ◌==◌, ◌∙◌, ◌∷◌, ◌≡◌, ◌≢◌, ◌⊎◌}
+use Rattle.wu_schema.proofs.AskingLemmas.{asks_now}
+use Rattle.wu_schema.proofs.Words.{Bool, Database, Err, Error, FailsToQuery, Fault, Ghosts, HasCleanDisk, Held, IfErr, IsErrAnd, IsFailure, IsSome, IsTrue, List, None, NotAProject, Ok, Option, Result, Row, Shown, Some, Refines, State, Vec, World, [], arith, fault_of, inl, inr, length, not, option_to_list, refl, state, subst, sym, ℕ, ⊤, ◌++◌, ◌<◌, ◌==◌, ◌∙◌, ◌∷◌, ◌≡◌, ◌≢◌, ◌⊎◌}
 use Rattle.std.specs.Prelude.{IfOk, MatchResult}
 use Rattle.wu_schema.specs.Asking.{Asks, FailsAll, IsSelect, ServesUnlessFailed, ShowsAll, TellsQuery}
-use Rattle.wu_schema.specs.Calls.{Tells}
 use Rattle.wu_schema.proofs.ReadLemmas.{if_ok, if_err}
 use Rattle.wu_schema.proofs.SelectLemmas.{Asked, Fits, IsTyped, parsed_of, select_of}
 use Rattle.wu_schema.proofs.ToldLemmas.{asked_told}
@@ -10,7 +10,8 @@ use Rattle.wu_schema.proofs.Parts.{Part, IsIn, table_in, name_of, parts_there}
 use Rattle.wu_core.specs.declared.fault.Fault.TheVariants.{Broken, Memory}
 pub use Rattle.wu_schema.proofs.AskingLemmas.{asks_fault, asks_made, asks_none, asks_stands, asks_then}
 use Rattle.wu_store.specs.Answers.{ShowsLast}
-use Rattle.wu_store.specs.Loading.{IsStoreFault, NotRefusedIn, StaysUnlessFailed}
+use Rattle.wu_store.specs.Loading.{IsStoreFault, StaysUnlessFailed}
+use Rattle.wu_store.specs.Reads.{Reads}
 use Rattle.wu_schema.specs.Reading.{IsReadFault}
 
 -- a failure is no refusal
@@ -19,12 +20,9 @@ never_refused fault (inl memory) refused = cc
 never_refused fault (inr broken) refused = cc
 
 -- what a question does and answers, and that it is not refused
-pub record HasAsked {S T : Type 0} (g : Ghosts S) (old new : Held S) (result : Result T Fault) (Is : T → World → Type 0) : Type 0 where
-  pub asks : Asks g old new result
+pub record HasAsked {S T : Type 0} (g : Ghosts S) (old new : Held S) (result : Result T Fault) (Over : Database → World → Type 0) (Is : T → World → Type 0) : Type 0 where
   pub opens : ServesUnlessFailed g new result
-  pub answers : Tells g old new result Is
-  pub fault : IfErr result IsStoreFault
-  pub unrefused : NotRefusedIn g old new result (λ _. ⊤)
+  pub reads : Reads g old new result IsStoreFault Over (λ r world. IfOk r (λ x. Is x world)) (λ _. ⊤)
 
 -- what is taken from the end of at most one
 pub only_taken : {X : Type 0} (found rest : List X) (o taken : Option X) → found ≡ option_to_list o → found ≡ rest ++ option_to_list taken → (0 < length found → IsSome taken) → taken ≡ o
@@ -38,33 +36,32 @@ only_taken found (z ∷ y2 ∷ rest) (Some x) (Some y) is parts some = absurd (l
 
 -- ---- what is made of an answer, and a fault that is handed on
 
-module _ {S T U : Type 0} (g : Ghosts S) (old new : Held S) (Is : T → World → Type 0) (Then : U → World → Type 0) where
-  pub asked_ok : (x : T) (y : U) → ((world : World) → Is x world → Then y world) → HasAsked g old new (Ok x) Is → HasAsked g old new (Ok y) Then
+module _ {S T U : Type 0} (g : Ghosts S) (old new : Held S) (Over : Database → World → Type 0) (Is : T → World → Type 0) (Then : U → World → Type 0) where
+  pub asked_ok : (x : T) (y : U) → ((world : World) → Is x world → Then y world) → HasAsked g old new (Ok x) Over Is → HasAsked g old new (Ok y) Over Then
   asked_ok x y made it = record {
-    asks = asks_made g old new x (Ok y) (λ is. absurd cc) it.asks;
     opens = it.opens;
-    answers = λ clean world s. made world (it.answers clean world s);
-    fault = tt;
-    unrefused = λ clean world s any limit. tt;
+    reads = record {
+      asks = asks_made g old new x (Ok y) (λ is. absurd cc) it.reads.asks;
+      fault = tt;
+      found = λ clean world stood. made world (it.reads.found clean world stood);
+      unrefused = λ clean world stood any limit. tt;
+    };
   }
 
-  pub asked_err : (fault : Fault) (r : Result U Fault) → IsErrAnd r (λ other. other ≡ fault) → HasAsked g old new (Err fault) Is → HasAsked g old new r Then
+  pub asked_err : (fault : Fault) (r : Result U Fault) → IsErrAnd r (λ other. other ≡ fault) → HasAsked g old new (Err fault) Over Is → HasAsked g old new r Over Then
   asked_err fault (Ok y) same it = absurd same
-  asked_err fault (Err other) same it = subst (λ f. HasAsked g old new (Err f) Then) (sym same) (record {
-    asks = asks_fault g old new fault it.asks;
+  asked_err fault (Err other) same it = subst (λ f. HasAsked g old new (Err f) Over Then) (sym same) (record {
     opens = it.opens;
-    answers = λ clean. tt;
-    fault = it.fault;
-    unrefused = it.unrefused;
+    reads = record { asks = asks_fault g old new fault it.reads.asks; fault = it.reads.fault; found = λ clean world stood. tt; unrefused = it.reads.unrefused };
   })
 
--- a SELECT with these parameters, which only memory, the disk or size may fail where the tables stand for a world
-pub record IsQuestion (text : List ℕ) (params : Row) : Type 1 where
+-- a SELECT with these parameters, which only memory, the disk or size may fail where the tables stand so
+pub record IsQuestion (text : List ℕ) (params : Row) (Over : Database → World → Type 0) : Type 1 where
   pub select : IsSelect text
-  pub told : (old new : State) (e : Error) → FailsToQuery text params old new e → (world : World) → Refines old.now world → old.step_limit ≡ None → IsFailure (fault_of e)
+  pub told : (old new : State) (e : Error) → FailsToQuery text params old new e → (world : World) → Over old.now world → old.step_limit ≡ None → IsFailure (fault_of e)
 
 -- one that fits its table
-pub question : (p : Part) → ((version : ℕ) → IsIn p version) → (q : Asked) → ((tree : ℕ) → Fits (name_of p) (table_in p tree) q) → (params : Row) → length params ≡ length q.parameters → ((tree : ℕ) → IsTyped (name_of p) (table_in p tree) q params) → IsQuestion q.text params
+pub question : (p : Part) → ((version : ℕ) → IsIn p version) → (q : Asked) → ((tree : ℕ) → Fits (name_of p) (table_in p tree) q) → (params : Row) → length params ≡ length q.parameters → ((tree : ℕ) → IsTyped (name_of p) (table_in p tree) q params) → IsQuestion q.text params Refines
 question p in_p q fits params few typed = record {
   select = record { parsed = parsed_of (name_of p) (table_in p 0) q; select = select_of (name_of p) (table_in p 0) q; read = (fits 0).read; is = refl };
   told = λ old new e h world s unlimited.
@@ -72,50 +69,54 @@ question p in_p q fits params few typed = record {
       asked_told (name_of p) has.0 _ q (fits _) old new has.1 params e few (typed _) unlimited h;
 }
 
-module _ {S : Type 0} {text : List ℕ} {params : Row} (g : Ghosts S) (it : IsQuestion text params) (old new : Held S) (given : Row) (same : given ≡ params) where
+module _ {S : Type 0} {text : List ℕ} {params : Row} {Over : Database → World → Type 0} (g : Ghosts S) (it : IsQuestion text params Over) (old new : Held S) (given : Row) (same : given ≡ params) where
   abbrev before : State
   before = state g old
 
   abbrev after : State
   after = state g new
 
-  pub never_told : (fault : Fault) → TellsQuery text given before after fault → (world : World) → Refines before.now world → before.step_limit ≡ None → fault ≢ NotAProject
+  pub never_told : (fault : Fault) → TellsQuery text given before after fault → (world : World) → Over before.now world → before.step_limit ≡ None → fault ≢ NotAProject
   never_told fault h world s limit is =
       never_refused (fault_of h.0) (it.told before after h.0 (subst (λ ps. FailsToQuery text ps before after h.0) same h.2) world s limit) (sym h.1 ∙ is)
 
   -- all its rows
-  pub asked_all : {A : Type 0} (Is : List Row → World → Type 0) → ((rows : List Row) → Shown text params before after rows → (world : World) → Refines before.now world → Is rows world) → (r : Result (Vec Row A) Fault)
-      → (IsSelect text → Asks g old new r) → (IsSelect text → ServesUnlessFailed g new r) → ShowsAll g old new r text given → FailsAll g old new r text given → IfErr r IsStoreFault → HasAsked g old new r (λ rows. Is rows.items)
+  pub asked_all : {A : Type 0} (Is : List Row → World → Type 0) → ((rows : List Row) → Shown text params before after rows → (world : World) → Over before.now world → Is rows world) → (r : Result (Vec Row A) Fault)
+      → (IsSelect text → Asks g old new r) → (IsSelect text → ServesUnlessFailed g new r) → ShowsAll g old new r text given → FailsAll g old new r text given → IfErr r IsStoreFault → HasAsked g old new r Over (λ rows. Is rows.items)
   asked_all Is found r asks opens shows fails told = record {
-    asks = asks it.select;
     opens = opens it.select;
-    answers = λ clean. if_ok r _ _ (λ rows h. found rows.items (subst (λ ps. Shown text ps before after rows.items) same h)) (shows clean);
-    fault = told;
-    unrefused = λ clean world s any limit. if_err r _ _ (λ fault h. never_told fault h world s limit) (fails clean);
+    reads = record {
+      asks = asks it.select;
+      fault = told;
+      found = λ clean world s. if_ok r _ _ (λ rows h. found rows.items (subst (λ ps. Shown text ps before after rows.items) same h) world s) (shows clean);
+      unrefused = λ clean world s any limit. if_err r _ _ (λ fault h. never_told fault h world s limit) (fails clean);
+    };
   }
 
   -- whether there is a row
-  pub asked_any : {A : Type 0} (any : World → Bool) → ((rows : List Row) → Shown text params before after rows → (world : World) → Refines before.now world → not (length rows == 0) ≡ any world)
-      → (rows : Vec Row A) → (IsSelect text → Asks g old new (Ok rows)) → (IsSelect text → ServesUnlessFailed g new (Ok rows)) → ShowsAll g old new (Ok rows) text given → (found : Bool) → found ≡ not (length rows.items == 0) → HasAsked g old new (Ok found) (λ it world. it ≡ any world)
+  pub asked_any : {A : Type 0} (any : World → Bool) → ((rows : List Row) → Shown text params before after rows → (world : World) → Over before.now world → not (length rows == 0) ≡ any world)
+      → (rows : Vec Row A) → (IsSelect text → Asks g old new (Ok rows)) → (IsSelect text → ServesUnlessFailed g new (Ok rows)) → ShowsAll g old new (Ok rows) text given → (found : Bool) → found ≡ not (length rows.items == 0) → HasAsked g old new (Ok found) Over (λ it world. it ≡ any world)
   asked_any {A} any answer rows asks opens shows found is =
-      asked_ok g old new (λ (rows : Vec Row A) world. not (length rows.items == 0) ≡ any world) (λ it world. it ≡ any world) rows found (λ world h. is ∙ h)
+      asked_ok g old new Over (λ (rows : Vec Row A) world. not (length rows.items == 0) ≡ any world) (λ it world. it ≡ any world) rows found (λ world h. is ∙ h)
       (asked_all (λ rows world. not (length rows == 0) ≡ any world) answer (Ok rows) asks opens shows (λ clean. tt) tt)
 
   -- the fault of one
   pub any_err : {A T : Type 0} (answer : World → T) (fault : Fault) → (IsSelect text → Asks {T = Vec Row A} g old new (Err fault)) → (IsSelect text → ServesUnlessFailed {T = Vec Row A} g new (Err fault)) → FailsAll {T = Vec Row A} g old new (Err fault) text given → IsStoreFault fault
-      → (r : Result T Fault) → IsErrAnd r (λ other. other ≡ fault) → HasAsked g old new r (λ it world. it ≡ answer world)
+      → (r : Result T Fault) → IsErrAnd r (λ other. other ≡ fault) → HasAsked g old new r Over (λ it world. it ≡ answer world)
   any_err {A} answer fault asks opens fails told r is =
-      asked_err g old new (λ (rows : Vec Row A) world. ⊤) (λ it world. it ≡ answer world) fault r is (asked_all (λ rows world. ⊤) (λ rows h world s. tt) (Err fault) asks opens (λ clean. tt) fails told)
+      asked_err g old new Over (λ (rows : Vec Row A) world. ⊤) (λ it world. it ≡ answer world) fault r is (asked_all (λ rows world. ⊤) (λ rows h world s. tt) (Err fault) asks opens (λ clean. tt) fails told)
 
   -- the one row, where there is one
-  pub asked_row : (row : World → Option Row) → ((rows : List Row) → Shown text params before after rows → (world : World) → Refines before.now world → rows ≡ option_to_list (row world)) → (r : Result (Option Row) Fault)
-      → (IsSelect text → Asks g old new r) → (IsSelect text → ServesUnlessFailed g new r) → ShowsLast g old new r text given → FailsAll g old new r text given → IfErr r IsStoreFault → HasAsked g old new r (λ it world. it ≡ row world)
+  pub asked_row : (row : World → Option Row) → ((rows : List Row) → Shown text params before after rows → (world : World) → Over before.now world → rows ≡ option_to_list (row world)) → (r : Result (Option Row) Fault)
+      → (IsSelect text → Asks g old new r) → (IsSelect text → ServesUnlessFailed g new r) → ShowsLast g old new r text given → FailsAll g old new r text given → IfErr r IsStoreFault → HasAsked g old new r Over (λ it world. it ≡ row world)
   asked_row row found r asks opens shows fails told = record {
-    asks = asks it.select;
     opens = opens it.select;
-    answers = λ clean. if_ok r _ _ (λ taken h world s. only_taken h.0 h.2.rest (row world) taken (found h.0 (subst (λ ps. Shown text ps before after h.0) same h.1) world s) h.2.parts h.2.some) (shows clean);
-    fault = told;
-    unrefused = λ clean world s any limit. if_err r _ _ (λ fault h. never_told fault h world s limit) (fails clean);
+    reads = record {
+      asks = asks it.select;
+      fault = told;
+      found = λ clean world s. if_ok r _ _ (λ taken h. only_taken h.0 h.2.rest (row world) taken (found h.0 (subst (λ ps. Shown text ps before after h.0) same h.1) world s) h.2.parts h.2.some) (shows clean);
+      unrefused = λ clean world s any limit. if_err r _ _ (λ fault h. never_told fault h world s limit) (fails clean);
+    };
   }
 
 -- ---- a fault that `?` hands on
@@ -127,6 +128,96 @@ handed_on (Err other) fault same never = λ is. never (sym same ∙ is)
 pub asks_handed : {S T U : Type 0} (g : Ghosts S) (old new : Held S) (r : Result U Fault) (fault : Fault) → IsErrAnd r (λ other. other ≡ fault) → Asks {T = T} g old new (Err fault) → Asks g old new r
 asks_handed g old new (Ok y) fault same it = absurd same
 asks_handed {S} {T} {U} g old new (Err other) fault same it = subst (λ f. Asks {T = U} g old new (Err f)) (sym same) (asks_fault {T = T} {U = U} g old new fault it)
+
+-- ---- what is said of calls that read, one after another
+
+-- before anything is asked
+pub reads_none : {S T : Type 0} (g : Ghosts S) (old : Held S) {Told : Fault → Type 0} {Over : Database → World → Type 0} {Finds : Result T Fault → World → Type 0} {Can : World → Type 0} (x : T) → ((world : World) → Over (state g old).now world → Finds (Ok x) world) → Reads g old old (Ok x) Told Over Finds Can
+reads_none g old x finds = record { asks = asks_none g old (Ok x) (λ is. absurd cc); fault = tt; found = λ clean world stood. finds world stood; unrefused = λ clean world stood can limit. tt }
+
+-- a question whose fault `?` hands on
+pub reads_handed : {S T U : Type 0} (g : Ghosts S) (old new : Held S) {Told : Fault → Type 0} {Over : Database → World → Type 0} {Finds : Result T Fault → World → Type 0} {Can : World → Type 0} {Then : Result U Fault → World → Type 0} {May : World → Type 0} (r : Result U Fault) (fault : Fault) → IsErrAnd r (λ other. other ≡ fault)
+    → Reads g old new (Err fault) Told Over Finds Can → ((other : Fault) → Told other → (world : World) → Then (Err other) world) → ((world : World) → Over (state g old).now world → May world → Can world)
+    → Reads g old new r Told Over Then May
+reads_handed g old new (Ok y) fault same it then can = absurd same
+reads_handed {U = U} g old new {Told} {Over} {Then = Then} {May} (Err other) fault same it then can = subst (λ f. Reads {T = U} g old new (Err f) Told Over Then May) (sym same) (record {
+  asks = asks_fault g old new fault it.asks;
+  fault = it.fault;
+  found = λ clean world stood. then fault it.fault world;
+  unrefused = λ clean world stood may limit. it.unrefused clean world stood (can world stood may) limit;
+})
+
+-- what is said over more worlds
+pub reads_over : {S T : Type 0} {g : Ghosts S} {old new : Held S} {r : Result T Fault} {Told : Fault → Type 0} {Over Was : Database → World → Type 0} {Finds : Result T Fault → World → Type 0} {Can : World → Type 0} → ((db : Database) (world : World) → Was db world → Over db world)
+    → Reads g old new r Told Over Finds Can → Reads g old new r Told Was Finds Can
+reads_over over it = record {
+  asks = it.asks;
+  fault = it.fault;
+  found = λ clean world was. it.found clean world (over _ world was);
+  unrefused = λ clean world was can limit. it.unrefused clean world (over _ world was) can limit;
+}
+
+-- of fewer worlds that can be read
+pub reads_can : {S T : Type 0} {g : Ghosts S} {old new : Held S} {r : Result T Fault} {Told : Fault → Type 0} {Over : Database → World → Type 0} {Finds : Result T Fault → World → Type 0} {Can May : World → Type 0} → ((world : World) → Over (state g old).now world → May world → Can world) → Reads g old new r Told Over Finds Can
+    → Reads g old new r Told Over Finds May
+reads_can can it = record { asks = it.asks; fault = it.fault; found = it.found; unrefused = λ clean world stood may limit. it.unrefused clean world stood (can world stood may) limit }
+
+-- and what is said of more faults
+pub reads_told : {S T : Type 0} {g : Ghosts S} {old new : Held S} {r : Result T Fault} {Told Also : Fault → Type 0} {Over : Database → World → Type 0} {Finds : Result T Fault → World → Type 0} {Can : World → Type 0} → ((fault : Fault) → Told fault → Also fault) → Reads g old new r Told Over Finds Can
+    → Reads g old new r Also Over Finds Can
+reads_told also it = record { asks = it.asks; fault = if_err _ _ _ also it.fault; found = it.found; unrefused = it.unrefused }
+
+-- what is made of an answer with no further question
+pub reads_made : {S T U : Type 0} (g : Ghosts S) (old new : Held S) {Told : Fault → Type 0} {Over : Database → World → Type 0} {Finds : Result T Fault → World → Type 0} {Can : World → Type 0} {Then : Result U Fault → World → Type 0} {May : World → Type 0} (x : T) (y : U)
+    → Reads g old new (Ok x) Told Over Finds Can → ((world : World) → Over (state g old).now world → Finds (Ok x) world → Then (Ok y) world) → Reads g old new (Ok y) Told Over Then May
+reads_made g old new x y it then = record {
+  asks = asks_made g old new x (Ok y) (λ is. absurd cc) it.asks;
+  fault = tt;
+  found = λ clean world stood. then world stood (it.found clean world stood);
+  unrefused = λ clean world stood may limit. tt;
+}
+
+-- what a call that asks nothing makes of an answer, where it fails for memory or for a cause of its own
+pub reads_also : {S T U : Type 0} (g : Ghosts S) (old new : Held S) {Told Also : Fault → Type 0} {Over : Database → World → Type 0} {Finds : Result T Fault → World → Type 0} {Can : World → Type 0} {Then : Result U Fault → World → Type 0} {May : World → Type 0} (x : T) (r : Result U Fault) → r ≢ Err Broken → IfErr r Also
+    → IfErr r (λ fault. fault ≢ NotAProject) → Reads g old new (Ok x) Told Over Finds Can → ((world : World) → Over (state g old).now world → Finds (Ok x) world → Then r world) → Reads g old new r Also Over Then May
+reads_also g old new x r unbroken also unrefused it then = record {
+  asks = asks_made g old new x r unbroken it.asks;
+  fault = also;
+  found = λ clean world stood. then world stood (it.found clean world stood);
+  unrefused = λ clean world stood may limit. unrefused;
+}
+
+-- a call behind one that was answered, which found this
+module _ {S T U : Type 0} (g : Ghosts S) (old mid new : Held S) {Told : Fault → Type 0} {Over : Database → World → Type 0} {Found : Result T Fault → World → Type 0} {Could : World → Type 0} (x : T) (first : Reads g old mid (Ok x) Told Over Found Could) where
+  module _ (r : Result U Fault) {Finds : Result U Fault → World → Type 0} {Can : World → Type 0} (next : Reads g mid new r Told Over Finds Can) where
+    between : HasCleanDisk (state g new) → HasCleanDisk (state g mid)
+    between clean = omega (arith, next.asks.crash.clean)
+
+    still : HasCleanDisk (state g new) → (world : World) → Over (state g old).now world → Over (state g mid).now world
+    still clean world stood = subst (λ (db : Database). Over db world) (sym (asks_now g old mid x first.asks (between clean))) stood
+
+    pub reads_then : {Then : Result U Fault → World → Type 0} {May : World → Type 0} → ((world : World) → Over (state g old).now world → Found (Ok x) world → Finds r world → Then r world) → ((world : World) → Over (state g old).now world → Found (Ok x) world → May world → Can world)
+        → Reads g old new r Told Over Then May
+    reads_then then can = record {
+      asks = asks_then g old mid new x first.asks r next.asks;
+      fault = next.fault;
+      found = λ clean world stood. then world stood (first.found (between clean) world stood) (next.found clean world (still clean world stood));
+      unrefused = λ clean world stood may limit. next.unrefused clean world (still clean world stood) (can world stood (first.found (between clean) world stood) may) (first.asks.crash.limit ∙ limit);
+    }
+
+  -- and where `?` hands its fault on
+  pub reads_then_handed : (r : Result U Fault) (fault : Fault) → IsErrAnd r (λ other. other ≡ fault) → {V : Type 0} {Finds : Result V Fault → World → Type 0} {Can : World → Type 0} {Then : Result U Fault → World → Type 0} {May : World → Type 0} → Reads g mid new (Err fault) Told Over Finds Can
+      → ((other : Fault) → Told other → (world : World) → Then (Err other) world) → ((world : World) → Over (state g old).now world → Found (Ok x) world → May world → Can world) → Reads g old new r Told Over Then May
+  reads_then_handed r fault same {Can = Can} {Then} next then can = reads_then r (reads_handed g mid new {Then = Then} {May = Can} r fault same next then (λ world stood it. it)) (λ world stood one two. two) can
+
+  -- both were answered
+  pub reads_both : (y : U) {Finds : Result U Fault → World → Type 0} {Can : World → Type 0} → Reads g mid new (Ok y) Told Over Finds Can → Reads g old new (Ok y) Told Over (λ _ world. Found (Ok x) world × Finds (Ok y) world) (λ _. ⊤)
+  reads_both y {Finds} next = record {
+    asks = asks_then g old mid new x first.asks (Ok y) next.asks;
+    fault = tt;
+    found = λ clean world stood. (first.found (between (Ok y) next clean) world stood, next.found clean world (still (Ok y) next clean world stood));
+    unrefused = λ clean world stood any limit. tt;
+  }
 
 module _ {U : Type 0} (r : Result U Fault) (fault : Fault) (same : IsErrAnd r (λ other. other ≡ fault)) where
   pub opens_handed : {S : Type 0} (g : Ghosts S) (new : Held S) → (HasCleanDisk (state g new) → IsFailure fault ⊎ IsTrue (state g new).is_open) → ServesUnlessFailed g new r

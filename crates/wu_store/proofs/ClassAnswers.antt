@@ -1,21 +1,17 @@
 -- What the questions for classes answer.
-use Rattle.wu_schema.proofs.Words.{Binary, Bool, Error, FailsToQuery, Fault, Ghosts, HasCleanDisk, Held, IfErr, Int, IsFailure, IsPermutation, IsPermutation-filter, IsPermutation-map, IsPermutation-trans, Less, List, None, NotAProject, Option, Refines, Result, Row, Shown, Some, State, Text, Workunit, World, [], ap, arith, bytes_eq, class_cells, codes, column, drop, equal, everything, fault_of, filter, filter-map, find, holds, host_class_at, length, list_all, lit, map, map-map, negsuc, number, option_map, option_to_list, refl, state, stored_class, subst, sym, true, workunit_class_at, ℕ, ◌==◌, ◌∙◌, ◌∷◌, ◌≡◌, ◌≢◌, ◌≤◌, IsAscending}
-use Rattle.std.specs.Prelude.{IfOk}
+use Rattle.wu_schema.proofs.Words.{Binary, Bool, Int, IsPermutation, IsPermutation-filter, IsPermutation-map, IsPermutation-trans, Less, List, None, Option, Row, Shown, Some, State, Text, Workunit, World, [], ap, arith, bytes_eq, class_cells, codes, column, drop, equal, everything, filter, filter-map, find, holds, host_class_at, length, list_all, lit, map, map-map, negsuc, number, option_map, option_to_list, refl, stored_class, subst, sym, true, workunit_class_at, ℕ, ◌==◌, ◌∙◌, ◌∷◌, ◌≡◌, ◌≤◌, IsAscending}
 use Rattle.std.specs.Option.{option_map_or}
 use Rattle.sqlite_sql.specs.declared.ops.CompareOp.TheVariants as compare
 use Rattle.wu_core.specs.declared.workunit.HostClass.{HostClass}
 use Rattle.wu_core.proofs.HostLemmas.{Ascends, below, matches, pairs_ascend}
-use Rattle.wu_schema.specs.Asking.{Asks, FailsAll, IsSelect, ServesUnlessFailed, TellsQuery}
 use Rattle.wu_schema.specs.Tables.{IsClassedVersion}
 use Rattle.wu_schema.proofs.Parts.{HostClasses, IsIn, Part, WorkClasses, name_of, parts_there, table_in}
-use Rattle.wu_schema.proofs.ReadLemmas.{if_ok, if_err}
 use Rattle.wu_schema.proofs.RowLemmas.{one_test}
 use Rattle.wu_schema.proofs.SelectLemmas.{Asked, Fits, IsTyped, parsed_of, select_of}
 use Rattle.wu_schema.proofs.ToldLemmas.{asked_told}
-use Rattle.wu_store.specs.Answers.{ShowsLast, numbered}
-use Rattle.wu_store.specs.StandsFor.{KnowsClasses}
-use Rattle.wu_store.specs.Loading.{IsStoreFault}
-use Rattle.wu_store.proofs.AskLemmas.{never_refused, only_taken}
+use Rattle.wu_store.specs.Answers.{numbered}
+use Rattle.wu_store.specs.Reads.{WithClasses}
+use Rattle.wu_store.proofs.AskLemmas.{IsQuestion}
 use Rattle.wu_store.proofs.EqualLemmas.{number_equal, text_equal}
 use Rattle.wu_store.proofs.OnceLemmas.{one_passes}
 use Rattle.wu_store.proofs.ReadAnswers.{asked_rows, kept_mapped, one_row, only_shown}
@@ -24,46 +20,15 @@ use Rattle.wu_store.specs.declared.texts.TheConstants.{SELECT_CLASS, SELECT_HOST
 
 -- ---- a question for a class, whole
 
--- a SELECT with these parameters, which only memory, the disk or size may fail where the tables stand for a world with
--- classes
-pub record IsClassQuestion (text : List ℕ) (params : Row) : Type 1 where
-  pub select : IsSelect text
-  pub told : (old new : State) (e : Error) → FailsToQuery text params old new e → (world : World) → KnowsClasses world → Refines old.now world → old.step_limit ≡ None → IsFailure (fault_of e)
-
--- what it does and answers, and that it is not refused
-pub record HasAskedOver {S T : Type 0} (g : Ghosts S) (old new : Held S) (result : Result T Fault) (Is : T → World → Type 0) : Type 0 where
-  pub asks : Asks g old new result
-  pub opens : ServesUnlessFailed g new result
-  pub answers : HasCleanDisk (state g new) → IfOk result (λ found. (world : World) → KnowsClasses world → Refines (state g old).now world → Is found world)
-  pub fault : IfErr result IsStoreFault
-  pub unrefused : HasCleanDisk (state g new) → (world : World) → KnowsClasses world → Refines (state g old).now world → old.step_limit ≡ None → IfErr result (λ fault. fault ≢ NotAProject)
-
--- of the one row, where there is one
-abbrev pub HasAskedClass : {S : Type 0} (g : Ghosts S) (old new : Held S) (result : Result (Option Row) Fault) (row : World → Option Row) → Type 0
-HasAskedClass g old new result row = HasAskedOver g old new result (λ taken world. taken ≡ row world)
-
-module _ (p : Part) (in_p : (version : ℕ) → IsClassedVersion version → IsIn p version) (q : Asked) (fits : (tree : ℕ) → Fits (name_of p) (table_in p tree) q) (params : Row) (few : length params ≡ length q.parameters) (typed : (tree : ℕ) → IsTyped (name_of p) (table_in p tree) q params) where
-  pub class_question : IsClassQuestion q.text params
-  class_question = record {
-    select = record { parsed = parsed_of (name_of p) (table_in p 0) q; select = select_of (name_of p) (table_in p 0) q; read = (fits 0).read; is = refl };
-    told = λ old new e h world known s unlimited.
-        let has = parts_there old.now world s p (in_p world.version known) in
-        asked_told (name_of p) has.0 _ q (fits _) old new has.1 params e few (typed _) unlimited h;
-  }
-
-  module _ {S : Type 0} (g : Ghosts S) (old new : Held S) (given : Row) (same : given ≡ params) (row : World → Option Row) (found : (rows : List Row) → Shown q.text params (state g old) (state g new) rows → (world : World) → KnowsClasses world → Refines (state g old).now world → rows ≡ option_to_list (row world)) where
-    never_told : (fault : Fault) → TellsQuery q.text given (state g old) (state g new) fault → (world : World) → KnowsClasses world → Refines (state g old).now world → (state g old).step_limit ≡ None → fault ≢ NotAProject
-    never_told fault h world known s limit is =
-        never_refused (fault_of h.0) (class_question.told (state g old) (state g new) h.0 (subst (λ ps. FailsToQuery q.text ps (state g old) (state g new) h.0) same h.2) world known s limit) (sym h.1 ∙ is)
-
-    pub asked_class : (r : Result (Option Row) Fault) → (IsSelect q.text → Asks g old new r) → (IsSelect q.text → ServesUnlessFailed g new r) → ShowsLast g old new r q.text given → FailsAll g old new r q.text given → IfErr r IsStoreFault → HasAskedClass g old new r row
-    asked_class r asks opens shows fails told = record {
-      asks = asks class_question.select;
-      opens = opens class_question.select;
-      answers = λ clean. if_ok r _ _ (λ taken h world known s. only_taken h.0 h.2.rest (row world) taken (found h.0 (subst (λ ps. Shown q.text ps (state g old) (state g new) h.0) same h.1) world known s) h.2.parts h.2.some) (shows clean);
-      fault = told;
-      unrefused = λ clean world known s limit. if_err r _ _ (λ fault h. never_told fault h world known s limit) (fails clean);
-    }
+-- one that fits its table
+pub class_question : (p : Part) → ((version : ℕ) → IsClassedVersion version → IsIn p version) → (q : Asked) → ((tree : ℕ) → Fits (name_of p) (table_in p tree) q) → (params : Row) → length params ≡ length q.parameters → ((tree : ℕ) → IsTyped (name_of p) (table_in p tree) q params)
+    → IsQuestion q.text params WithClasses
+class_question p in_p q fits params few typed = record {
+  select = record { parsed = parsed_of (name_of p) (table_in p 0) q; select = select_of (name_of p) (table_in p 0) q; read = (fits 0).read; is = refl };
+  told = λ old new e h world stood unlimited.
+      let has = parts_there old.now world stood.1 p (in_p world.version stood.0) in
+      asked_told (name_of p) has.0 _ q (fits _) old new has.1 params e few (typed _) unlimited h;
+}
 
 -- ---- the class of a workunit
 
@@ -81,8 +46,8 @@ work_row w = number w.class ∷ []
 abbrev pub row_classed : ℕ → World → Option Row
 row_classed n world = option_map work_row (numbered n world)
 
-pub class_found : (old new : State) (n : ℕ) (rows : List Row) → Shown class_asked.text (number n ∷ []) old new rows → (world : World) → KnowsClasses world → Refines old.now world → rows ≡ option_to_list (row_classed n world)
-class_found old new n rows h world known s =
+pub class_found : (old new : State) (n : ℕ) (rows : List Row) → Shown class_asked.text (number n ∷ []) old new rows → (world : World) → WithClasses old.now world → rows ≡ option_to_list (row_classed n world)
+class_found old new n rows h world (known, s) =
     one_row stored_class work_row (λ (w : Workunit). w.number == n) _ _ world.workunits _ rows (s.rows.classes known).workunits.same (once_number old.now world s n) (λ w. one_test _ ∙ number_equal w.number n) (λ w. refl)
     (asked_rows WorkClasses class_asked class_fits old new world s known (number n ∷ []) rows refl h)
 
@@ -127,8 +92,8 @@ tests_cells : (host : List ℕ) (r : Row) → list_all (holds ((Text host ∷ []
 tests_cells host [] = one_test _
 tests_cells host (v ∷ r) = one_test _
 
-pub host_found : (old new : State) (host : List ℕ) (rows : List Row) → Shown host_asked.text (Text host ∷ []) old new rows → (world : World) → KnowsClasses world → Refines old.now world → rows ≡ option_to_list (row_named host world)
-host_found old new host rows h world known s =
+pub host_found : (old new : State) (host : List ℕ) (rows : List Row) → Shown host_asked.text (Text host ∷ []) old new rows → (world : World) → WithClasses old.now world → rows ≡ option_to_list (row_named host world)
+host_found old new host rows h world (known, s) =
     let stored = old.now.trees s.trees.host_class in
     let all = asked_rows HostClasses host_asked host_fits old new world s known (Text host ∷ []) rows refl h in
     let seen : map (λ r. class_in (drop 1 r)) (filter (λ r. by_name host (drop 1 r)) stored) ≡ map class_in (filter (by_name host) (map (drop 1) stored)) =

@@ -122,7 +122,7 @@ module _ (schema : Schema) (title : Name) (at : ℕ) (table : Table) (has : HasT
 
 -- ---- what it asks
 
-pub last_question : (p : Part) → ((version : ℕ) → IsIn p version) → (text : List ℕ) → ((tree : ℕ) → FitsLast (name_of p) (table_in p tree) text) → IsQuestion text []
+pub last_question : (p : Part) → ((version : ℕ) → IsIn p version) → (text : List ℕ) → ((tree : ℕ) → FitsLast (name_of p) (table_in p tree) text) → IsQuestion text [] Refines
 last_question p in_p text fits = record {
   select = record { parsed = parsed_of (name_of p) (table_in p 0) text; select = select_of (name_of p) (table_in p 0) text; read = (fits 0).read; is = refl };
   told = λ old new e h world s unlimited.

@@ -1,6 +1,7 @@
 -- What is loaded of a project is what the world has, step by step.
-use Rattle.wu_schema.proofs.Words.{AllByRecursion, Bool, Err, Fault, Ghosts, IsOrWantsMemory, HasCleanDisk, Held, IfErr, IfOk, Import, ImportKind, Instance, List, None, NotAProject, Ok, Option, Result, Row, Some, Refines, State, Workunit, World, [], ap, arith, cases_Bool, filter, find, if◌then◌else◌, inl, inr, instance_row, is_import, length, length-map, map, map-append, number, option_map, refl, slice_get, state, subst, sym, take, verdict_digits, workunit_row, ℕ, ◌++◌, ◌+◌, ◌-◌, ◌<◌, ◌==◌, ◌∙◌, ◌∷◌, ◌≡◌, ◌≢◌, ◌≤◌}
-use Rattle.std.specs.Prelude.{All, IfSome, MatchResult, cond, false, get_or, true, ◌^◌}
+use Rattle.wu_store.proofs.AskLemmas.{reads_then}
+use Rattle.wu_schema.proofs.Words.{AllByRecursion, Bool, Err, Fault, Ghosts, IsOrWantsMemory, Held, IfErr, IfOk, Import, ImportKind, Instance, List, None, NotAProject, Ok, Option, Result, Row, Some, Refines, State, Workunit, World, [], ap, arith, cases_Bool, filter, find, if◌then◌else◌, inl, inr, instance_row, is_import, length, length-map, map, map-append, number, option_map, refl, slice_get, state, subst, sym, take, verdict_digits, workunit_row, ℕ, ◌++◌, ◌+◌, ◌-◌, ◌<◌, ◌==◌, ◌∙◌, ◌∷◌, ◌≡◌, ◌≢◌, ◌≤◌}
+use Rattle.std.specs.Prelude.{All, IfSome, MatchResult, cond, false, get_or, true}
 use Rattle.wu_core.specs.Storable.{IsClass}
 use Rattle.std.specs.Option.{option_map_or}
 use Rattle.sqlite_rules.proofs.ListLemmas.{has_found}
@@ -9,16 +10,16 @@ use Rattle.std.proofs.lemmas.List.{get_or-map, take_more}
 use Rattle.std.proofs.lemmas.List.Elements.{All-weaker}
 use Rattle.wu_core.specs.Formed.{IsInstance, IsWorkunit}
 use Rattle.wu_core.specs.Limits.{most_instances}
-use Rattle.wu_schema.specs.Calls.{Answers}
+use Rattle.wu_store.specs.Reads.{FindsAt, ReadsWorld}
 use Rattle.sqlite.proofs.StateLemmas.{survives_then}
 use Rattle.wu_schema.proofs.CallLemmas.{back_none}
-use Rattle.wu_schema.proofs.AskingLemmas.{asks_stands, back_then, survives_none}
+use Rattle.wu_schema.proofs.AskingLemmas.{back_then, survives_none}
 use Rattle.wu_schema.specs.Restoring.{Restores}
 use Rattle.wu_schema.specs.Stored.{kept_cells}
 use Rattle.wu_store.specs.Answers.{instance_rows_of, kept_of, last_of, last_place, numbered, row_before}
 use Rattle.wu_store.specs.StandsFor.{KnowsClasses}
 use Rattle.wu_store.specs.Classes.{class_numbered, LoadsClass}
-use Rattle.wu_store.specs.Loading.{classless, FindsClassless, IsWholeIfThere, Asks, Finds, FindsIfThere, FindsInstances, LoadsInstances, LoadsImport, IsEarlier, IsLoadable, IsLoadableIfThere, IsReadOnly, IsRowIfThere, IsRowOfPresent, IsStoreFault, NotRefusedIn, ForEachWorld, instances_at}
+use Rattle.wu_store.specs.Loading.{classless, FindsClassless, IsWholeIfThere, Asks, Finds, FindsIfThere, FindsInstances, LoadsInstances, LoadsImport, IsEarlier, IsLoadable, IsLoadableIfThere, IsReadOnly, IsRowIfThere, IsRowOfPresent, IsStoreFault, instances_at}
 pub use Rattle.wu_store.proofs.AskLemmas.{never_refused}
 use Rattle.wu_schema.specs.Reading.{IsStoredImport, stored_import_row}
 use Rattle.wu_core.specs.Storable.{AreStoredInstances, HasItsInstances, IsNextNumber, IsStoredInstance, IsStorable, IsStoredWorkunit, bare}
@@ -306,33 +307,19 @@ module _ (v w : Workunit) (found : Option Workunit) (world : World) (it : IsBack
       ap (λ (x : Workunit). Some x) one ∙ sym it.found_is
 
   pub class_can : IsStorable w → LoadsClass v.number world
-  class_can can = subst (λ o. IfSome o IsClass) (sym class_told) can.class
-
-  pub number_can : IsStorable w → v.number < 2 ^ 63
-  number_can can = omega (arith, number_back, can.number)
+  class_can can = (omega (arith, number_back, can.number), subst (λ o. IfSome o IsClass) (sym class_told) can.class)
 
 -- a row that was read, of the first workunit that passes a test, and then its instances
-module _ {S : Type 0} (g : Ghosts S) (old mid new : Held S) (p : Workunit → Bool) (row : Option Row) (result : Result (Option Workunit) Fault)
-    (asks : Asks g old mid (Ok row)) (answers : Answers g old mid (Ok row) (λ world. option_map workunit_row (find p world.workunits))) (next : Asks g mid new result) where
-  mid_clean : HasCleanDisk (state g new) → HasCleanDisk (state g mid)
-  mid_clean clean = omega (arith, next.crash.clean)
+module _ {S : Type 0} (g : Ghosts S) (old mid new : Held S) (p : Workunit → Bool) (row : Option Row) (result : Result (Option Workunit) Fault) {Could : World → Type 0} (first : ReadsWorld g old mid (Ok row) (FindsAt (λ world. option_map workunit_row (find p world.workunits))) Could) where
+  there : (world : World) → Refines (state g old).now world → row ≡ option_map workunit_row (find p world.workunits) → IsRowIfThere row (find p world.workunits) world
+  there world stands is = first_there p world row (world_rises (state g old).now world stands) is
 
-  still : HasCleanDisk (state g new) → (world : World) → Refines (state g old).now world → Refines (state g mid).now world
-  still clean world stands = asks_stands g old mid row asks (mid_clean clean) world stands
-
-  there : HasCleanDisk (state g new) → (world : World) → Refines (state g old).now world → IsRowIfThere row (find p world.workunits) world
-  there clean world stands = first_there p world row (world_rises (state g old).now world stands) (answers (mid_clean clean) world stands)
-
-  pub load_found : ForEachWorld g mid new (FindsIfThere row result) → ForEachWorld g old new (λ world. KnowsClasses world → Finds (find p world.workunits) result)
-  load_found found clean world stands known = found clean world (still clean world stands) known (find p world.workunits) (there clean world stands)
-
-  pub load_unrefused : NotRefusedIn g mid new result (IsWholeIfThere row) → NotRefusedIn g old new result (λ world. KnowsClasses world × IsLoadable (find p world.workunits))
-  load_unrefused unrefused clean world stands can limit = unrefused clean world (still clean world stands) (record { known = can.0; loadable = (find p world.workunits, there clean world stands, can.1) }) (asks.crash.limit ∙ limit)
+  pub load_then : ReadsWorld g mid new result (FindsIfThere row) (IsWholeIfThere row) → ReadsWorld g old new result (λ r world. KnowsClasses world → Finds (find p world.workunits) r) (λ world. KnowsClasses world × IsLoadable (find p world.workunits))
+  load_then next = reads_then g old mid new row first result next (λ world stands is found known. found known (find p world.workunits) (there world stands is))
+      (λ world stands is can. record { known = can.0; loadable = (find p world.workunits, there world stands is, can.1) })
 
   -- where there are no classes
-  pub early_found : ForEachWorld g mid new (FindsClassless row result) → ForEachWorld g old new (λ world. ¬ KnowsClasses world → Finds (find p world.workunits) result)
-  early_found found clean world stands early =
-      subst (λ o. Finds o result) (found_classless p world.workunits (stands.rows.classless early).workunits) (found clean world (still clean world stands) (find p world.workunits) (there clean world stands))
-
-  pub early_unrefused : NotRefusedIn g mid new result (IsLoadableIfThere row) → NotRefusedIn g old new result (λ world. IsLoadable (find p world.workunits))
-  early_unrefused unrefused clean world stands can limit = unrefused clean world (still clean world stands) (find p world.workunits, there clean world stands, can) (asks.crash.limit ∙ limit)
+  pub early_then : ReadsWorld g mid new result (FindsClassless row) (IsLoadableIfThere row) → ReadsWorld g old new result (λ r world. ¬ KnowsClasses world → Finds (find p world.workunits) r) (λ world. IsLoadable (find p world.workunits))
+  early_then next = reads_then g old mid new row first result next
+      (λ world stands is found early. subst (λ o. Finds o result) (found_classless p world.workunits (stands.rows.classless early).workunits) (found (find p world.workunits) (there world stands is)))
+      (λ world stands is can. (find p world.workunits, there world stands is, can))

@@ -2,7 +2,6 @@
 use Rattle.wu_schema.proofs.Words.{Binary, Bool, Fault, FailsToQuery, Ghosts, Held, IfErr, List, Name, None, NotAProject, Option, Result, Row, Shown, Some, State, Term, Vec, [], ap, arith, binary, col, codes, column, equal, filter, fault_of, holds, inl, inr, is_true, length, list_all, map, map-map, nat_le, nat_tests, number, number_or_null, refl, state, subst, sym, take, true, false, ℕ, ◌&&◌, ◌∙◌, ◌∷◌, ◌≡◌, ◌≢◌, ◌⊎◌}
 use Rattle.std.specs.Option.{option_map_or}
 use Rattle.sqlite_sql.specs.declared.ops.BinaryOp.TheVariants as by
-use Rattle.sqlite_sql.specs.declared.ops.CompareOp.{CompareOp}
 use Rattle.sqlite_sql.specs.declared.ops.CompareOp.TheVariants as compare
 use Rattle.wu_core.specs.declared.marks.Marks.{Marks}
 use Rattle.wu_rules.specs.declared.due.Pass.{Pass}

@@ -1,11 +1,11 @@
 -- What the statements of a project leave of the tables of other programs.
-use Rattle.wu_schema.proofs.Words.{Database, Executes, HasNamed, List, Ok, Refines, Row, Schema, State, Table, Term, Text, World, [], ap, arith, codes, number, refl, subst, sym, ℕ, ◌∙◌, ◌∷◌, ◌≡◌}
+use Rattle.wu_schema.proofs.Words.{Database, Executes, HasNamed, List, Ok, Refines, Row, State, Table, Term, Text, World, [], arith, codes, number, ℕ, ◌∷◌, ◌≡◌}
 use Rattle.sqlite_rules.specs.Lists.{Has}
-use Rattle.wu_schema.specs.Made.{Named, archived_table, host_class_table, import_table, project_table, result_table, workunit_class_table, workunit_table}
-use Rattle.wu_schema.specs.Others.{AreThere, IsOthers, Spares, SparesOthers, SparesWith, table_names, tables_of_workunits}
+use Rattle.wu_schema.specs.Made.{archived_table, host_class_table, import_table, project_table, result_table, workunit_class_table, workunit_table}
+use Rattle.wu_schema.specs.Others.{AreThere, Spares, SparesOthers, SparesWith, table_names, tables_of_workunits}
 use Rattle.wu_schema.specs.Queue.{queue_table}
 use Rattle.wu_schema.specs.Tables.{host_class_at, project_at, queue_at, result_at, workunit_at, workunit_class_at}
-use Rattle.wu_schema.proofs.OthersLemmas.{others_apart, others_calm, others_still, insert_spares, ours_archived, ours_host_class, ours_import, ours_project, ours_queue, ours_result, ours_workunit, ours_workunit_class, spares_then}
+use Rattle.wu_schema.proofs.OthersLemmas.{others_apart, others_calm, others_still, insert_spares, ours_archived, ours_host_class, ours_import, ours_project, ours_queue, ours_result, ours_workunit, ours_workunit_class}
 use Rattle.wu_schema.proofs.SetTexts.{SetBy, SetFits}
 use Rattle.wu_schema.proofs.StandsLemmas.{is_there}
 use Rattle.wu_store.specs.StandsFor.{KnowsClasses, StandsFor}

@@ -1,5 +1,5 @@
 -- What each statement on classes makes of a world, and what is asked about them.
-use Rattle.std.specs.Prelude.{◌≡◌, ◌≢◌, ◌==◌, ℕ, List, [], map, codes, Option, None, option_map, Result, IfErr, IfOk, IfSome, if◌then◌else◌}
+use Rattle.std.specs.Prelude.{◌<◌, ◌^◌, ◌≡◌, ◌≢◌, ◌==◌, ℕ, List, [], map, codes, Option, None, option_map, Result, IfErr, IfSome, if◌then◌else◌}
 use Rattle.sqlite.specs.Effect.{Database}
 use Rattle.sqlite.specs.Held.{Held, state}
 use Rattle.sqlite.specs.State.{HasCleanDisk}
@@ -82,21 +82,17 @@ class_numbered number world = option_map (λ (w : Workunit). w.class) (numbered 
 abbrev pub class_named : List ℕ → World → ℕ
 class_named host world = class_of world.classes host
 
--- These classes can be read.
+-- The number may be that of a row, and the class of its workunit, if there is one, can be read.
 abbrev pub LoadsClass : ℕ → World → Type 0
-LoadsClass number world = IfSome (class_numbered number world) IsClass
+LoadsClass number world = (number < 2 ^ 63) × IfSome (class_numbered number world) IsClass
 
+-- The class of the host of this name can be read.
 abbrev pub LoadsHostClass : List ℕ → World → Type 0
 LoadsHostClass host world = IsClass (class_named host world)
 
 -- On a clean disk, this holds of each world with classes that the tables represent.
 abbrev pub ForEachClassed : {S : Type 0} → Ghosts S → Held S → Held S → (World → Type 0) → Type 0
 ForEachClassed g old new Is = HasCleanDisk (state g new) → (world : World) → KnowsClasses world → Refines (state g old).now world → Is world
-
--- The answer is what each represented world with classes has.
-abbrev pub AnswersClass : {S T : Type 0} → Ghosts S → Held S → Held S → Result T Fault → (World → T) → Type 0
-AnswersClass g old new result answer =
-    HasCleanDisk (state g new) → IfOk result (λ found. (world : World) → KnowsClasses world → Refines (state g old).now world → found ≡ answer world)
 
 -- Over such a world and without a limit on steps, no read is refused.
 abbrev pub NotRefusedClass : {S T : Type 0} → Ghosts S → Held S → Held S → Result T Fault → (World → Type 0) → Type 0

@@ -1,5 +1,5 @@
 -- The workunits that a pass is to change, as they are found.
-use Rattle.std.specs.Prelude.{◌≡◌, ℕ, ◌-◌, ◌^◌, slice_get, All, List, map, [], ◌∷◌, Some, Option, Result, MatchResult, Vec}
+use Rattle.std.specs.Prelude.{◌<◌, ◌≡◌, ℕ, ◌-◌, ◌^◌, slice_get, All, List, map, [], ◌∷◌, Some, Option, Result, MatchResult, Vec}
 use Rattle.std.specs.Option.{option_map_or}
 use Rattle.wu_core.specs.declared.fault.Fault.{Fault}
 use Rattle.wu_core.specs.declared.fault.Fault.TheVariants.{Memory}
@@ -36,6 +36,10 @@ FindsMarks result world = ¬ KnowsClasses world → MatchResult result (λ rows.
 -- The world has no classes, and each workunit can be read.
 abbrev pub AreEarly : World → Type 0
 AreEarly world = (¬ KnowsClasses world) × AreStorable world
+
+-- The limit can be asked for, and each workunit can be read.
+abbrev pub LoadsDue : ℕ → World → Type 0
+LoadsDue limit world = (limit < 2 ^ 63) × AreStorable world
 
 -- Without classes, the workunit of the least number is found; `None` if there is no workunit.
 abbrev pub FindsFirst : Result (Option Workunit) Fault → World → Type 0

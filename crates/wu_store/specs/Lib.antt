@@ -5,6 +5,7 @@ pub mod Changes
 pub mod Worlds
 pub mod Loading
 pub mod StandsFor
+pub mod Reads
 pub mod Changing
 pub mod Due
 pub mod Queues

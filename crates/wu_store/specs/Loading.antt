@@ -1,13 +1,12 @@
 -- What is loaded of a project: a workunit with its instances, by its number, its name, or as the first above a number;
 -- an import; the next number; and the next place of a grant or of an archived row.
-use Rattle.std.specs.Prelude.{◌≡◌, ◌≢◌, ℕ, ◌<◌, ◌≤◌, ◌^◌, List, [], Option, Some, None, option_map, Result, find, IfErr, IfOk, IfSome, IsTrue, MatchResult, ⊤}
+use Rattle.std.specs.Prelude.{◌≡◌, ℕ, ◌<◌, ◌≤◌, ◌^◌, List, [], Option, Some, None, option_map, Result, find, IfOk, IfSome, IsTrue, MatchResult, ⊤}
 use Rattle.std.specs.Option.{option_map_or}
 use Rattle.sqlite.specs.Held.{Held, state}
 use Rattle.sqlite.specs.Order.{Row}
 use Rattle.sqlite.specs.State.{State, HasCleanDisk, Survives}
 use Rattle.sqlite.specs.Store.{Ghosts}
 use Rattle.wu_core.specs.declared.fault.Fault.{Fault}
-use Rattle.wu_core.specs.declared.fault.Fault.TheVariants.{NotAProject}
 use Rattle.wu_core.specs.declared.import.ImportKind.{ImportKind}
 use Rattle.wu_core.specs.declared.workunit.Instance.{Instance}
 use Rattle.wu_core.specs.declared.workunit.Workunit.{Workunit}
@@ -16,7 +15,6 @@ use Rattle.wu_core.specs.World.{World, Import, is_import}
 use Rattle.wu_schema.specs.Calls.{IsBack}
 pub use Rattle.wu_schema.specs.Asking.{Asks, ServesUnlessFailed}
 pub use Rattle.wu_schema.specs.Faults.{IsStoreFault}
-use Rattle.wu_schema.specs.Refines.{Refines}
 use Rattle.wu_schema.specs.Stored.{workunit_row}
 use Rattle.wu_store.specs.Answers.{first_above, named, numbered}
 use Rattle.wu_store.specs.Changes.{IsNextPlace}
@@ -34,15 +32,6 @@ pub record IsReadOnly (old new : State) : Type 0 where
 -- A connection that was open stays open after an answer, and after each fault except `Memory` and `Broken`.
 abbrev pub StaysUnlessFailed : {S T : Type 0} → Ghosts S → Held S → Held S → Result T Fault → Type 0
 StaysUnlessFailed g old new result = IsTrue (state g old).is_open → ServesUnlessFailed g new result
-
--- On a clean disk, this holds of each world that the tables represent.
-abbrev pub ForEachWorld : {S : Type 0} → Ghosts S → Held S → Held S → (World → Type 0) → Type 0
-ForEachWorld g old new Is = HasCleanDisk (state g new) → (world : World) → Refines (state g old).now world → Is world
-
--- If the tables represent such a world and steps have no limit, no read is refused.
-abbrev pub NotRefusedIn : {S T : Type 0} → Ghosts S → Held S → Held S → Result T Fault → (World → Type 0) → Type 0
-NotRefusedIn g old new result Is =
-    HasCleanDisk (state g new) → (world : World) → Refines (state g old).now world → Is world → old.step_limit ≡ None → IfErr result (λ fault. fault ≢ NotAProject)
 
 -- ---- a workunit with its instances
 

@@ -4,7 +4,8 @@ ghost use Rattle.std.specs.Prelude.{◌≡◌, ◌<◌, ◌^◌, IfErr};
 ghost use Rattle.wu_schema.specs.Calls.{Does, StatementFrame, TransactionFrame};
 ghost use Rattle.wu_schema.specs.Made.{host_class_table, workunit_class_table};
 ghost use Rattle.wu_schema.specs.Others.{Spares, SparesBeside};
-ghost use Rattle.wu_store.specs.Classes.{AddsClass, AnswersClass, ChangesClasses, FillsClasses, LoadsClass, LoadsHostClass, NotRefusedClass, PutsClass, UpgradesClasses, class_named, class_numbered, with_host_class, with_set_class};
+ghost use Rattle.wu_store.specs.Classes.{AddsClass, ChangesClasses, FillsClasses, LoadsClass, LoadsHostClass, PutsClass, UpgradesClasses, class_named, class_numbered, with_host_class, with_set_class};
+ghost use Rattle.wu_store.specs.Reads.{FindsAt, ReadsClassed};
 ghost use Rattle.wu_store.specs.Loading.{Asks, IsStoreFault, ServesUnlessFailed};
 
 use crate::statements::{ask_row, key_of, set_version, signed};
@@ -122,21 +123,15 @@ pub fn class_of_workunit<S: Alter>(
     conn: &mut Connection<S>,
     number: u64,
 ) -> Result<Option<u32>, Fault>
-    // Begins no transaction and commits nothing; except after `Memory` and `Broken` all is as
-    // before; `Broken` means a failed disk or a closed connection.
-    ensures asks { Asks S.Store conn.old conn.new result }
     // For a number below 2^63 the connection is open afterwards, except after `Memory` and
     // `Broken`.
     ensures opens { number < 2 ^ 63 → ServesUnlessFailed S.Store conn.new result }
-    // A fault is `Memory`, `Broken` or `NotAProject`.
-    ensures fault { IfErr result IsStoreFault }
     // In each represented world with classes it is the class of the workunit of this number, or
     // `None` if there is none.
-    ensures found { AnswersClass S.Store conn.old conn.new result (class_numbered number) }
     // Over a represented world with classes, that class in range, with no limit on steps and a
     // number below 2^63, `NotAProject` is not returned.
-    ensures unrefused { number < 2 ^ 63
-        → NotRefusedClass S.Store conn.old conn.new result (LoadsClass number) }
+    ensures reads { ReadsClassed S.Store conn.old conn.new result
+        (FindsAt (class_numbered number)) (LoadsClass number) }
 {
     let key = key_of(number)?;
     let row = ask_row(conn, SELECT_CLASS, params![key])?;
@@ -148,19 +143,13 @@ pub fn class_of_workunit<S: Alter>(
 
 /// Returns the class of the host of this name: 0 if no file named it. Returns `NotAProject` if its row is invalid.
 pub fn class_of<S: Alter>(conn: &mut Connection<S>, host: &Name) -> Result<u32, Fault>
-    // Begins no transaction and commits nothing; except after `Memory` and `Broken` all is as
-    // before; `Broken` means a failed disk or a closed connection.
-    ensures asks { Asks S.Store conn.old conn.new result }
     // The connection is open afterwards, except after `Memory` and `Broken`.
     ensures opens { ServesUnlessFailed S.Store conn.new result }
-    // A fault is `Memory`, `Broken` or `NotAProject`.
-    ensures fault { IfErr result IsStoreFault }
     // It is the class that the host has in each represented world with classes, 0 if no file named
     // it.
-    ensures found { AnswersClass S.Store conn.old conn.new result (class_named host.now) }
     // Over a represented world with classes, that class in range, with no limit on steps,
     // `NotAProject` is not returned.
-    ensures unrefused { NotRefusedClass S.Store conn.old conn.new result
+    ensures reads { ReadsClassed S.Store conn.old conn.new result (FindsAt (class_named host.now))
         (LoadsHostClass host.now) }
 {
     let row = ask_row(conn, SELECT_HOST_CLASS, params![host.as_str()])?;

@@ -4,13 +4,12 @@ ghost use Rattle.std.specs.Prelude.{◌≡◌, ◌≤◌, ◌<◌, ◌+◌, ◌+
 ghost use Rattle.wu_core.specs.declared.fault.Fault.TheVariants.{Memory};
 ghost use Rattle.wu_core.specs.declared.marks.Marks.{Marks};
 ghost use Rattle.wu_rules.specs.Marks.{marks, selects};
-ghost use Rattle.wu_store.specs.Due.{AreEarly, numbers_left, FindsDue, FindsDueNumbers, FindsFirst, FindsNumbers, AreRowsOfStorable, FindsAllPresent, FindsMarks, FindsPresent, IsRowOfStorable};
+ghost use Rattle.wu_store.specs.Due.{AreEarly, LoadsDue, numbers_left, FindsDue, FindsDueNumbers, FindsFirst, FindsNumbers, AreRowsOfStorable, FindsAllPresent, FindsMarks, FindsPresent, IsRowOfStorable};
 ghost use Rattle.wu_store.specs.Queues.{AnswersQueue, first_marked, is_marked, NotRefusedQueue};
-ghost use Rattle.wu_store.specs.StandsFor.{ForEachQueued, NotRefusedQueued};
-ghost use Rattle.wu_store.specs.Loading.{Asks, FindsAbove, IsStoreFault, LoadsAbove, NotRefusedIn, ForEachWorld, ServesUnlessFailed};
+ghost use Rattle.wu_store.specs.Reads.{ReadsQueued, ReadsWorld};
+ghost use Rattle.wu_store.specs.Loading.{Asks, FindsAbove, IsStoreFault, LoadsAbove, ServesUnlessFailed};
 ghost use Rattle.wu_schema.specs.Reading.{IsReadFault};
 ghost use Rattle.wu_core.specs.Formed.{IsWorkunit};
-ghost use Rattle.wu_core.specs.Storable.{AreStorable};
 
 use crate::loading::{load, load_above, load_early};
 use crate::statements::marked_rows;
@@ -26,19 +25,13 @@ pub(crate) fn first<S: Alter>(
     conn: &mut Connection<S>,
     alloc: Global,
 ) -> Result<Option<Workunit>, Fault>
-    // Begins no transaction and commits nothing; except after `Memory` and `Broken` all is as
-    // before; `Broken` means a failed disk or a closed connection.
-    ensures asks { Asks S.Store conn.old conn.new result }
     // The connection is open afterwards, except after `Memory` and `Broken`.
     ensures opens { ServesUnlessFailed S.Store conn.new result }
-    // A fault is `Memory`, `Broken` or `NotAProject`.
-    ensures fault { IfErr result IsStoreFault }
     // In each represented world without classes it is the workunit of the least number, or `None`
     // if there is none.
-    ensures found { ForEachWorld S.Store conn.old conn.new (FindsFirst result) }
     // Over a represented world without classes, its workunits readable, with no limit on steps,
     // `NotAProject` is not returned.
-    ensures unrefused { NotRefusedIn S.Store conn.old conn.new result AreEarly }
+    ensures reads { ReadsWorld S.Store conn.old conn.new result FindsFirst AreEarly }
 {
     match load_early(conn, alloc, 0)? {
         Some(workunit) => Ok(Some(workunit)),
@@ -58,17 +51,12 @@ pub(crate) fn next_after<S: Alter>(
     // There are fewer 64-bit numbers from that of the answer on than from this one on, so a loop
     // over answers ends.
     ensures shrinks { IfOk result (λ next. numbers_left next < 2 ^ 64 - number) }
-    // Begins no transaction and commits nothing; except after `Memory` and `Broken` all is as
-    // before; `Broken` means a failed disk or a closed connection.
-    ensures asks { Asks S.Store conn.old conn.new result }
-    // A fault is `Memory`, `Broken` or `NotAProject`.
-    ensures fault { IfErr result IsStoreFault }
     // In each represented world without classes it is the first workunit above this number, or
     // `None` if there is none.
-    ensures found { ForEachWorld S.Store conn.old conn.new (FindsAbove number result) }
     // Over a represented world without classes, that workunit readable, with no limit on steps and
     // a number below 2^63, `NotAProject` is not returned.
-    ensures unrefused { NotRefusedIn S.Store conn.old conn.new result (LoadsAbove number) }
+    ensures reads { ReadsWorld S.Store conn.old conn.new result (FindsAbove number)
+        (LoadsAbove number) }
 {
     let Some(next) = load_above(conn, alloc, number)? else {
         return Ok(None);
@@ -96,19 +84,13 @@ pub fn load_marks<S: Alter>(
     conn: &mut Connection<S>,
     alloc: Global,
 ) -> Result<Vec<(u64, Marks)>, Fault>
-    // Begins no transaction and commits nothing; except after `Memory` and `Broken` all is as
-    // before; `Broken` means a failed disk or a closed connection.
-    ensures asks { Asks S.Store conn.old conn.new result }
     // The connection is open afterwards, except after `Memory` and `Broken`.
     ensures opens { ServesUnlessFailed S.Store conn.new result }
-    // A fault is `Memory`, `Broken` or `NotAProject`.
-    ensures fault { IfErr result IsStoreFault }
     // In each represented world without classes these are the numbers of all workunits with their
     // marks, in order of number.
-    ensures marks { ForEachWorld S.Store conn.old conn.new (FindsMarks result) }
     // Over a represented world without classes, its workunits readable, with no limit on steps,
     // `NotAProject` is not returned.
-    ensures unrefused { NotRefusedIn S.Store conn.old conn.new result AreEarly }
+    ensures reads { ReadsWorld S.Store conn.old conn.new result FindsMarks AreEarly }
 {
     let mut rows = Vec::new(alloc);
     let mut next = first(conn, alloc)?;
@@ -171,15 +153,13 @@ fn due_rows<S: Alter>(
 
 /// Returns the workunit of the number in a row of the queue. Returns `NotAProject` if there is none.
 fn present<S: Alter>(conn: &mut Connection<S>, alloc: Global, row: &Row) -> Result<Workunit, Fault>
-    ensures asks { Asks S.Store conn.old conn.new result }
-    ensures fault { IfErr result IsStoreFault }
     ensures formed { IfOk result IsWorkunit }
     // In each represented world with classes where the row has the number of a workunit, it is that
     // workunit.
-    ensures found { ForEachWorld S.Store conn.old conn.new (FindsPresent row.now result) }
     // Over such a world with that workunit readable, and with no limit on steps, `NotAProject` is
     // not returned.
-    ensures unrefused { NotRefusedIn S.Store conn.old conn.new result (IsRowOfStorable row.now) }
+    ensures reads { ReadsWorld S.Store conn.old conn.new result (FindsPresent row.now)
+        (IsRowOfStorable row.now) }
 {
     let number = number_at(row, 0)?;
     match load(conn, alloc, number)? {
@@ -233,17 +213,14 @@ fn load_all<S: Alter>(
     alloc: Global,
     rows: &[Row],
 ) -> Result<Vec<Workunit>, Fault>
-    ensures asks { Asks S.Store conn.old conn.new result }
-    ensures fault { IfErr result IsStoreFault }
     ensures formed { IfOk result (λ found. All IsWorkunit found.items) }
     // In each represented world with classes where the rows have the numbers of workunits, these
     // are those workunits.
-    ensures found { ForEachWorld S.Store conn.old conn.new (FindsAllPresent rows.now result) }
-    ensures long { IfOk result (λ found. length found.items ≡ length rows.now) }
     // Over such a world with those workunits readable, and with no limit on steps, `NotAProject` is
     // not returned.
-    ensures unrefused { NotRefusedIn S.Store conn.old conn.new result
+    ensures reads { ReadsWorld S.Store conn.old conn.new result (FindsAllPresent rows.now)
         (AreRowsOfStorable rows.now) }
+    ensures long { IfOk result (λ found. length found.items ≡ length rows.now) }
 {
     let mut found = Vec::new(alloc);
     for row in rows {
@@ -265,25 +242,18 @@ pub fn load_due<S: Alter>(
     min_age: u64,
     limit: u64,
 ) -> Result<Vec<Workunit>, Fault>
-    // Begins no transaction and commits nothing; except after `Memory` and `Broken` all is as
-    // before; `Broken` means a failed disk or a closed connection.
-    ensures asks { Asks S.Store conn.old conn.new result }
     // For a limit below 2^63 the connection is open afterwards, except after `Memory` and `Broken`.
     ensures opens { limit < 2 ^ 63 → ServesUnlessFailed S.Store conn.new result }
-    // A fault is `Memory`, `Broken` or `NotAProject`.
-    ensures fault { IfErr result IsStoreFault }
     // In each represented world with classes and its queue these are the first workunits that the
     // pass changes, up to the limit.
-    ensures due { ForEachQueued S.Store conn.old conn.new
-        (FindsDue pass now min_age limit result) }
+    // Over a represented world with classes, its queue and readable workunits, with no limit on
+    // steps and a limit below 2^63, `NotAProject` is not returned.
+    ensures reads { ReadsQueued S.Store conn.old conn.new result (FindsDue pass now min_age limit)
+        (LoadsDue limit) }
     // Each of the workunits is well formed, whatever the tables hold.
     ensures formed { IfOk result (λ due. All IsWorkunit due.items) }
     // There are at most as many as the limit.
     ensures few { IfOk result (λ due. length due.items ≤ limit) }
-    // Over a represented world with classes, its queue and readable workunits, with no limit on
-    // steps and a limit below 2^63, `NotAProject` is not returned.
-    ensures unrefused { limit < 2 ^ 63
-        → NotRefusedQueued S.Store conn.old conn.new result AreStorable }
 {
     let rows = first_due_rows(conn, pass, now, min_age, limit)?;
     load_all(conn, alloc, rows.as_slice())
@@ -300,23 +270,16 @@ pub fn due_numbers<S: Alter>(
     min_age: u64,
     limit: u64,
 ) -> Result<Vec<u64>, Fault>
-    // Begins no transaction and commits nothing; except after `Memory` and `Broken` all is as
-    // before; `Broken` means a failed disk or a closed connection.
-    ensures asks { Asks S.Store conn.old conn.new result }
     // For a limit below 2^63 the connection is open afterwards, except after `Memory` and `Broken`.
     ensures opens { limit < 2 ^ 63 → ServesUnlessFailed S.Store conn.new result }
-    // A fault is `Memory`, `Broken` or `NotAProject`.
-    ensures fault { IfErr result IsStoreFault }
     // In each represented world with classes and its queue these are the numbers of the first
     // workunits that the pass changes, up to the limit.
-    ensures due { ForEachQueued S.Store conn.old conn.new
-        (FindsDueNumbers pass now min_age limit result) }
-    // There are at most as many as the limit.
-    ensures few { IfOk result (λ due. length due.items ≤ limit) }
     // Over a represented world with classes and its queue, with no limit on steps and a limit below
     // 2^63, `NotAProject` is not returned.
-    ensures unrefused { limit < 2 ^ 63
-        → NotRefusedQueued S.Store conn.old conn.new result (λ _. ⊤) }
+    ensures reads { ReadsQueued S.Store conn.old conn.new result
+        (FindsDueNumbers pass now min_age limit) (λ _. limit < 2 ^ 63) }
+    // There are at most as many as the limit.
+    ensures few { IfOk result (λ due. length due.items ≤ limit) }
 {
     let rows = first_due_rows(conn, pass, now, min_age, limit)?;
     numbers_in(alloc, rows.as_slice())

@@ -2,8 +2,8 @@
 //! and the next places.
 
 ghost use Rattle.std.specs.Prelude.{◌<◌, ◌≤◌, ◌^◌, ◌↔◌, ⊤, map, IfErr, IfOk, IsTrue};
-ghost use Rattle.wu_store.specs.Loading.{Asks, FindsAbove, FindsClassless, FindsEarlier, FindsEarly, FindsIfThere, FindsInstances, FindsNamed, FindsNumbered, LoadsInstances, LoadsImport, IsLoadableIfThere, IsPlaceToGive, IsStoreFault, IsWholeIfThere, KnowsArchivedPlace, KnowsGrantPlace, KnowsNext, LoadsAbove, LoadsEarly, LoadsFormed, LoadsNamed, LoadsNumbered, NotRefusedIn, ForEachWorld, ServesUnlessFailed};
-ghost use Rattle.wu_schema.specs.Calls.{Answers};
+ghost use Rattle.wu_store.specs.Reads.{FindsAt, ReadsWorld};
+ghost use Rattle.wu_store.specs.Loading.{FindsAbove, FindsClassless, FindsEarlier, FindsEarly, FindsIfThere, FindsInstances, FindsNamed, FindsNumbered, LoadsInstances, LoadsImport, IsLoadableIfThere, IsPlaceToGive, IsWholeIfThere, KnowsArchivedPlace, KnowsGrantPlace, KnowsNext, LoadsAbove, LoadsEarly, LoadsFormed, LoadsNamed, LoadsNumbered, ServesUnlessFailed};
 ghost use Rattle.wu_schema.specs.Restoring.{Restores};
 ghost use Rattle.wu_schema.specs.Stored.{instance_row};
 ghost use Rattle.wu_store.specs.Answers.{row_before, row_numbered};
@@ -44,17 +44,13 @@ fn instances_of<S: Alter>(
     alloc: Global,
     workunit: u64,
 ) -> Result<Instances, Fault>
-    // Begins no transaction and commits nothing; except after `Memory` and `Broken` all is as
-    // before; `Broken` means a failed disk or a closed connection.
-    ensures asks { Asks S.Store conn.old conn.new result }
-    ensures fault { IfErr result IsStoreFault }
     ensures stored { IfOk result AreStoredInstances }
     // In each represented world these are the instances of the workunit of this number, or none if
     // it is not there.
-    ensures found { ForEachWorld S.Store conn.old conn.new (FindsInstances workunit result) }
     // Over a represented world, those instances readable, with no limit on steps and a number below
     // 2^63, `NotAProject` is not returned.
-    ensures unrefused { NotRefusedIn S.Store conn.old conn.new result (LoadsInstances workunit) }
+    ensures reads { ReadsWorld S.Store conn.old conn.new result (FindsInstances workunit)
+        (LoadsInstances workunit) }
 {
     let key = key_of(workunit)?;
     let rows = query(conn, SELECT_INSTANCES, params![key])?;
@@ -68,13 +64,11 @@ fn loaded<S: Alter>(
     alloc: Global,
     row: Option<Row>,
 ) -> Result<Option<Workunit>, Fault>
-    ensures asks { Asks S.Store conn.old conn.new result }
-    ensures fault { IfErr result IsStoreFault }
     ensures formed { LoadsFormed result }
     // In each represented world with the workunit of that row it is this one with its instances and
     // class 0; `None` without a row.
-    ensures found { ForEachWorld S.Store conn.old conn.new (FindsClassless row result) }
-    ensures unrefused { NotRefusedIn S.Store conn.old conn.new result (IsLoadableIfThere row) }
+    ensures reads { ReadsWorld S.Store conn.old conn.new result (FindsClassless row)
+        (IsLoadableIfThere row) }
 {
     let Some(row) = row else {
         return Ok(None);
@@ -95,13 +89,11 @@ fn whole<S: Alter>(
     alloc: Global,
     row: Option<Row>,
 ) -> Result<Option<Workunit>, Fault>
-    ensures asks { Asks S.Store conn.old conn.new result }
-    ensures fault { IfErr result IsStoreFault }
     ensures formed { LoadsFormed result }
     // In each represented world with classes and the workunit of that row it is this one; `None`
     // without a row.
-    ensures found { ForEachWorld S.Store conn.old conn.new (FindsIfThere row result) }
-    ensures unrefused { NotRefusedIn S.Store conn.old conn.new result (IsWholeIfThere row) }
+    ensures reads { ReadsWorld S.Store conn.old conn.new result (FindsIfThere row)
+        (IsWholeIfThere row) }
 {
     let Some(mut workunit) = loaded(conn, alloc, row)? else {
         return Ok(None);
@@ -118,13 +110,11 @@ fn whole<S: Alter>(
 /// Returns the row of the workunit of this number, or `None` if there is none. Returns `NotAProject` if the number is
 /// not below 2^63.
 fn numbered_row<S: Alter>(conn: &mut Connection<S>, number: u64) -> Result<Option<Row>, Fault>
-    ensures asks { Asks S.Store conn.old conn.new result }
     ensures opens { number < 2 ^ 63 → ServesUnlessFailed S.Store conn.new result }
-    ensures fault { IfErr result IsStoreFault }
     // It is the row that the workunit of this number has in each represented world, or `None` if
     // there is none.
-    ensures answers { Answers S.Store conn.old conn.new result (row_numbered number) }
-    ensures unrefused { NotRefusedIn S.Store conn.old conn.new result (λ _. number < 2 ^ 63) }
+    ensures reads { ReadsWorld S.Store conn.old conn.new result (FindsAt (row_numbered number))
+        (λ _. number < 2 ^ 63) }
 {
     let key = key_of(number)?;
     ask_row(conn, SELECT_NUMBERED, params![key])
@@ -138,22 +128,17 @@ pub fn load<S: Alter>(
     alloc: Global,
     number: u64,
 ) -> Result<Option<Workunit>, Fault>
-    // Begins no transaction and commits nothing; except after `Memory` and `Broken` all is as
-    // before; `Broken` means a failed disk or a closed connection.
-    ensures asks { Asks S.Store conn.old conn.new result }
     // For a number below 2^63 the connection is open afterwards, except after `Memory` and
     // `Broken`.
     ensures opens { number < 2 ^ 63 → ServesUnlessFailed S.Store conn.new result }
-    // A fault is `Memory`, `Broken` or `NotAProject`.
-    ensures fault { IfErr result IsStoreFault }
     // A workunit that is returned is well formed, whatever the tables hold.
     ensures formed { LoadsFormed result }
     // In each represented world with classes it is the workunit of this number with class and
     // instances, or `None` if there is none.
-    ensures found { ForEachWorld S.Store conn.old conn.new (FindsNumbered number result) }
     // Over a represented world with classes, that workunit readable, with no limit on steps and a
     // number below 2^63, `NotAProject` is not returned.
-    ensures unrefused { NotRefusedIn S.Store conn.old conn.new result (LoadsNumbered number) }
+    ensures reads { ReadsWorld S.Store conn.old conn.new result (FindsNumbered number)
+        (LoadsNumbered number) }
 {
     let row = numbered_row(conn, number)?;
     whole(conn, alloc, row)
@@ -167,22 +152,17 @@ pub fn load_early<S: Alter>(
     alloc: Global,
     number: u64,
 ) -> Result<Option<Workunit>, Fault>
-    // Begins no transaction and commits nothing; except after `Memory` and `Broken` all is as
-    // before; `Broken` means a failed disk or a closed connection.
-    ensures asks { Asks S.Store conn.old conn.new result }
     // For a number below 2^63 the connection is open afterwards, except after `Memory` and
     // `Broken`.
     ensures opens { number < 2 ^ 63 → ServesUnlessFailed S.Store conn.new result }
-    // A fault is `Memory`, `Broken` or `NotAProject`.
-    ensures fault { IfErr result IsStoreFault }
     // A workunit that is returned is well formed, whatever the tables hold.
     ensures formed { LoadsFormed result }
     // In each represented world without classes it is the workunit of this number with its
     // instances, or `None` if there is none.
-    ensures found { ForEachWorld S.Store conn.old conn.new (FindsEarly number result) }
     // Over a represented world without classes, that workunit readable, with no limit on steps and
     // a number below 2^63, `NotAProject` is not returned.
-    ensures unrefused { NotRefusedIn S.Store conn.old conn.new result (LoadsEarly number) }
+    ensures reads { ReadsWorld S.Store conn.old conn.new result (FindsEarly number)
+        (LoadsEarly number) }
 {
     let row = numbered_row(conn, number)?;
     loaded(conn, alloc, row)
@@ -197,22 +177,17 @@ pub fn load_above<S: Alter>(
     alloc: Global,
     number: u64,
 ) -> Result<Option<Workunit>, Fault>
-    // Begins no transaction and commits nothing; except after `Memory` and `Broken` all is as
-    // before; `Broken` means a failed disk or a closed connection.
-    ensures asks { Asks S.Store conn.old conn.new result }
     // For a number below 2^63 the connection is open afterwards, except after `Memory` and
     // `Broken`.
     ensures opens { number < 2 ^ 63 → ServesUnlessFailed S.Store conn.new result }
-    // A fault is `Memory`, `Broken` or `NotAProject`.
-    ensures fault { IfErr result IsStoreFault }
     // A workunit that is returned is well formed, whatever the tables hold.
     ensures formed { LoadsFormed result }
     // In each represented world without classes it is the first workunit above this number with its
     // instances, or `None` if there is none.
-    ensures found { ForEachWorld S.Store conn.old conn.new (FindsAbove number result) }
     // Over a represented world without classes, that workunit readable, with no limit on steps and
     // a number below 2^63, `NotAProject` is not returned.
-    ensures unrefused { NotRefusedIn S.Store conn.old conn.new result (LoadsAbove number) }
+    ensures reads { ReadsWorld S.Store conn.old conn.new result (FindsAbove number)
+        (LoadsAbove number) }
 {
     let key = key_of(number)?;
     let row = ask_row(conn, SELECT_ABOVE, params![key])?;
@@ -226,21 +201,16 @@ pub fn load_named<S: Alter>(
     alloc: Global,
     name: &Name,
 ) -> Result<Option<Workunit>, Fault>
-    // Begins no transaction and commits nothing; except after `Memory` and `Broken` all is as
-    // before; `Broken` means a failed disk or a closed connection.
-    ensures asks { Asks S.Store conn.old conn.new result }
     // The connection is open afterwards, except after `Memory` and `Broken`.
     ensures opens { ServesUnlessFailed S.Store conn.new result }
-    // A fault is `Memory`, `Broken` or `NotAProject`.
-    ensures fault { IfErr result IsStoreFault }
     // A workunit that is returned is well formed, whatever the tables hold.
     ensures formed { LoadsFormed result }
     // In each represented world with classes it is the workunit of this name with class and
     // instances, or `None` if there is none.
-    ensures found { ForEachWorld S.Store conn.old conn.new (FindsNamed name.now result) }
     // Over a represented world with classes, that workunit readable, with no limit on steps,
     // `NotAProject` is not returned.
-    ensures unrefused { NotRefusedIn S.Store conn.old conn.new result (LoadsNamed name.now) }
+    ensures reads { ReadsWorld S.Store conn.old conn.new result (FindsNamed name.now)
+        (LoadsNamed name.now) }
 {
     let row = ask_row(conn, SELECT_NAMED, params![name.as_str()])?;
     whole(conn, alloc, row)
@@ -253,19 +223,14 @@ pub fn import_of<S: Alter>(
     kind: ImportKind,
     name: &Name,
 ) -> Result<Option<StoredImport>, Fault>
-    // Begins no transaction and commits nothing; except after `Memory` and `Broken` all is as
-    // before; `Broken` means a failed disk or a closed connection.
-    ensures asks { Asks S.Store conn.old conn.new result }
     // The connection is open afterwards, except after `Memory` and `Broken`.
     ensures opens { ServesUnlessFailed S.Store conn.new result }
-    // A fault is `Memory`, `Broken` or `NotAProject`.
-    ensures fault { IfErr result IsStoreFault }
     // In each represented world it is the stored import of this kind and name: content and first
     // answer; or `None` if there is none.
-    ensures found { ForEachWorld S.Store conn.old conn.new (FindsEarlier kind name.now result) }
     // Over a represented world where that import's verdicts are of its kind, with no limit on
     // steps, `NotAProject` is not returned.
-    ensures unrefused { NotRefusedIn S.Store conn.old conn.new result (LoadsImport kind name.now) }
+    ensures reads { ReadsWorld S.Store conn.old conn.new result (FindsEarlier kind name.now)
+        (LoadsImport kind name.now) }
 {
     let rows = query(conn, SELECT_IMPORT, params![kind.code(), name.as_str()])?;
     match rows.first() {
@@ -279,18 +244,12 @@ pub fn import_of<S: Alter>(
 pub fn next_number<S: Alter>(conn: &mut Connection<S>) -> Result<u64, Fault>
     // The number is from 1 to one more than there may be workunits ever.
     ensures within { IfOk result IsNextNumber }
-    // Begins no transaction and commits nothing; except after `Memory` and `Broken` all is as
-    // before; `Broken` means a failed disk or a closed connection.
-    ensures asks { Asks S.Store conn.old conn.new result }
     // The connection is open afterwards, except after `Memory` and `Broken`.
     ensures opens { ServesUnlessFailed S.Store conn.new result }
-    // A fault is `Memory`, `Broken` or `NotAProject`.
-    ensures fault { IfErr result IsStoreFault }
     // It is the next number of each represented world.
-    ensures next { ForEachWorld S.Store conn.old conn.new (KnowsNext result) }
     // Over a represented world with such a next number and no limit on steps, `NotAProject` is not
     // returned.
-    ensures unrefused { NotRefusedIn S.Store conn.old conn.new result LoadsNext }
+    ensures reads { ReadsWorld S.Store conn.old conn.new result KnowsNext LoadsNext }
 {
     let row = ask_row(conn, SELECT_NEXT_NUMBER, &[])?;
     match row {
@@ -324,17 +283,11 @@ fn place_behind(last: Option<Row>) -> Result<u64, Fault>
 pub fn next_grant_place<S: Alter>(conn: &mut Connection<S>) -> Result<u64, Fault>
     // The place is from 1 to 2^63.
     ensures within { IfOk result IsPlaceToGive }
-    // Begins no transaction and commits nothing; except after `Memory` and `Broken` all is as
-    // before; `Broken` means a failed disk or a closed connection.
-    ensures asks { Asks S.Store conn.old conn.new result }
     // The connection is open afterwards, except after `Memory` and `Broken`.
     ensures opens { ServesUnlessFailed S.Store conn.new result }
-    // A fault is `Memory`, `Broken` or `NotAProject`.
-    ensures fault { IfErr result IsStoreFault }
     // It is the place after all grants of each represented world, counted from 1.
-    ensures place { ForEachWorld S.Store conn.old conn.new (KnowsGrantPlace result) }
     // Over a represented world, with no limit on steps, `NotAProject` is not returned.
-    ensures unrefused { NotRefusedIn S.Store conn.old conn.new result (λ _. ⊤) }
+    ensures reads { ReadsWorld S.Store conn.old conn.new result KnowsGrantPlace (λ _. ⊤) }
 {
     let last = ask_row(conn, SELECT_LAST_GRANT, &[])?;
     place_behind(last)
@@ -344,17 +297,11 @@ pub fn next_grant_place<S: Alter>(conn: &mut Connection<S>) -> Result<u64, Fault
 pub fn next_archived_place<S: Alter>(conn: &mut Connection<S>) -> Result<u64, Fault>
     // The place is from 1 to 2^63.
     ensures within { IfOk result IsPlaceToGive }
-    // Begins no transaction and commits nothing; except after `Memory` and `Broken` all is as
-    // before; `Broken` means a failed disk or a closed connection.
-    ensures asks { Asks S.Store conn.old conn.new result }
     // The connection is open afterwards, except after `Memory` and `Broken`.
     ensures opens { ServesUnlessFailed S.Store conn.new result }
-    // A fault is `Memory`, `Broken` or `NotAProject`.
-    ensures fault { IfErr result IsStoreFault }
     // It is the place after all archived rows of each represented world, counted from 1.
-    ensures place { ForEachWorld S.Store conn.old conn.new (KnowsArchivedPlace result) }
     // Over a represented world, with no limit on steps, `NotAProject` is not returned.
-    ensures unrefused { NotRefusedIn S.Store conn.old conn.new result (λ _. ⊤) }
+    ensures reads { ReadsWorld S.Store conn.old conn.new result KnowsArchivedPlace (λ _. ⊤) }
 {
     let last = ask_row(conn, SELECT_LAST_ARCHIVED, &[])?;
     place_behind(last)

@@ -7,12 +7,13 @@ ghost use Rattle.wu_store.specs.Classes.{ChangesClasses, SetsVersion};
 ghost use Rattle.wu_store.specs.Changes.{with_placed, without_instances, without_workunit, with_next, AddsArchived, AddsImport, AddsInstance, Credits, PutsGrants, WasFree};
 ghost use Rattle.wu_core.specs.declared.fault.Fault.TheVariants.{NotAProject};
 ghost use Rattle.wu_schema.specs.Asking.{Asks, FailsAll, IsSelect};
-ghost use Rattle.wu_schema.specs.Calls.{Answers, StatementFrame, Does, Changes, RunsText};
+ghost use Rattle.wu_schema.specs.Calls.{StatementFrame, Does, Changes, RunsText};
 ghost use Rattle.wu_schema.specs.Made.{archived_table, import_table, project_table, result_table, workunit_table};
 ghost use Rattle.wu_schema.specs.Others.{Spares, SparesWith, tables_of_workunits};
 ghost use Rattle.wu_schema.specs.Queue.{queue_table};
 ghost use Rattle.wu_schema.specs.Stored.{instance_cells, marks_cells, number, workunit_row};
-ghost use Rattle.wu_store.specs.Loading.{IsStoreFault, NotRefusedIn, ServesUnlessFailed};
+ghost use Rattle.wu_store.specs.Reads.{FindsAt, ReadsWorld};
+ghost use Rattle.wu_store.specs.Loading.{IsStoreFault, ServesUnlessFailed};
 ghost use Rattle.wu_store.specs.Queues.{AnswersQueue, ChangesQueue, first_marked, is_marked, KeepsQueue, KeepsWorld, marked_text, NotRefusedQueue, with_marks, without_marks};
 ghost use Rattle.wu_store.specs.Answers.{has_name, ShowsLast, was_archived};
 
@@ -129,18 +130,13 @@ pub fn ask_row<S: Alter>(
 
 /// Returns whether a workunit of this name is present.
 pub fn has_workunit<S: Alter>(conn: &mut Connection<S>, name: &Name) -> Result<bool, Fault>
-    // Begins no transaction and commits nothing; except after `Memory` and `Broken` all is as
-    // before; `Broken` means a failed disk or a closed connection.
-    ensures asks { Asks S.Store conn.old conn.new result }
     // The connection is open afterwards, except after `Memory` and `Broken`.
     ensures opens { ServesUnlessFailed S.Store conn.new result }
     // `true` means that each represented world has a workunit of this name, and `false` that none
     // has.
-    ensures answers { Answers S.Store conn.old conn.new result (has_name name.now) }
-    // A fault is `Memory`, `Broken` or `NotAProject`.
-    ensures fault { IfErr result IsStoreFault }
     // Over a represented world, with no limit on steps, `NotAProject` is not returned.
-    ensures unrefused { NotRefusedIn S.Store conn.old conn.new result (λ _. ⊤) }
+    ensures reads { ReadsWorld S.Store conn.old conn.new result (FindsAt (has_name name.now))
+        (λ _. ⊤) }
 {
     let rows = query(conn, SELECT_NUMBER, params![name.as_str()])?;
     Ok(!rows.is_empty())
@@ -148,18 +144,13 @@ pub fn has_workunit<S: Alter>(conn: &mut Connection<S>, name: &Name) -> Result<b
 
 /// Returns whether a workunit of this name was archived.
 pub fn has_archived<S: Alter>(conn: &mut Connection<S>, name: &Name) -> Result<bool, Fault>
-    // Begins no transaction and commits nothing; except after `Memory` and `Broken` all is as
-    // before; `Broken` means a failed disk or a closed connection.
-    ensures asks { Asks S.Store conn.old conn.new result }
     // The connection is open afterwards, except after `Memory` and `Broken`.
     ensures opens { ServesUnlessFailed S.Store conn.new result }
     // `true` means that each represented world has an archived workunit of this name, and `false`
     // that none has.
-    ensures answers { Answers S.Store conn.old conn.new result (was_archived name.now) }
-    // A fault is `Memory`, `Broken` or `NotAProject`.
-    ensures fault { IfErr result IsStoreFault }
     // Over a represented world, with no limit on steps, `NotAProject` is not returned.
-    ensures unrefused { NotRefusedIn S.Store conn.old conn.new result (λ _. ⊤) }
+    ensures reads { ReadsWorld S.Store conn.old conn.new result (FindsAt (was_archived name.now))
+        (λ _. ⊤) }
 {
     let rows = query(conn, SELECT_ARCHIVED, params![name.as_str()])?;
     Ok(!rows.is_empty())

@@ -1,8 +1,8 @@
 -- A SELECT of ours that counts, whole: what it does to the connection, what it counts, and that it is not refused.
-use Rattle.wu_schema.proofs.Words.{Err, Fault, Ghosts, HasCleanDisk, Held, IfErr, List, None, NotAProject, Ok, Option, Result, Row, Shown, Some, Refines, Value, World, [], ap, column, inl, inr, length, refl, state, subst, sym, ℕ, ◌∙◌, ◌∷◌, ◌≡◌, ◌≢◌, ◌⊎◌}
+use Rattle.wu_schema.proofs.Words.{Database, Err, Fault, Ghosts, HasCleanDisk, Held, IfErr, List, None, NotAProject, Ok, Option, Result, Row, Shown, Some, Refines, Value, World, [], ap, column, inl, inr, length, refl, state, subst, sym, ℕ, ◌∙◌, ◌∷◌, ◌≡◌, ◌≢◌, ◌⊎◌}
 use Rattle.wu_core.specs.declared.fault.Fault.TheVariants.{Memory}
 use Rattle.wu_schema.specs.Asking.{Asks, IsSelect, ServesUnlessFailed, TellsQuery}
-use Rattle.wu_schema.specs.Calls.{Tells}
+use Rattle.wu_schema.specs.Tables.{IsClassedVersion}
 use Rattle.wu_schema.proofs.ReadLemmas.{if_ok, if_err}
 use Rattle.wu_schema.proofs.ToldLemmas.{counted_told}
 use Rattle.wu_schema.proofs.Parts.{Part, IsIn, table_in, name_of, parts_there}
@@ -10,11 +10,11 @@ use Rattle.wu_schema.proofs.CountTexts.{CountFits, Counted, IsCountTyped, parsed
 use Rattle.wu_schema.proofs.QuietLemmas.{same_some}
 use Rattle.sqlite_sql.specs.Aggregate.{count}
 use Rattle.wu_store.specs.Answers.{ShowsLast}
-use Rattle.wu_store.specs.Loading.{ForEachWorld, IsStoreFault}
+use Rattle.wu_store.specs.Loading.{IsStoreFault}
+use Rattle.wu_store.specs.Reads.{WithClasses}
 use Rattle.wu_schema.specs.Reading.{IsReadFault}
 use Rattle.wu_store.proofs.AskLemmas.{HasAsked, IsQuestion, never_refused, never_told, only_taken}
 use Rattle.wu_views.specs.Counting.{FailsCount, IsCount, ReadsCount, ShowsCount}
-use Rattle.wu_views.specs.Summaries.{FindsAt}
 
 -- ---- the count of a row
 
@@ -44,33 +44,41 @@ module _ {S : Type 0} (g : Ghosts S) (old new : Held S) (sql : List ℕ) (params
 
 -- one that counts rows of its table
 pub count_question : (p : Part) → ((version : ℕ) → IsIn p version) → (q : Counted) (by : Option ℕ) → ((tree : ℕ) → CountFits (name_of p) (table_in p tree) q by) → (params : Row) → length params ≡ length q.parameters
-    → ((tree : ℕ) → IsCountTyped (name_of p) (table_in p tree) q by params) → IsQuestion q.text params
+    → ((tree : ℕ) → IsCountTyped (name_of p) (table_in p tree) q by params) → IsQuestion q.text params Refines
 count_question p in_p q by fits params few typed = record {
   select = record { parsed = parsed_by (name_of p) (table_in p 0) q by; select = select_by (name_of p) (table_in p 0) q by; read = (fits 0).read; is = refl };
   told = λ old new e h world s unlimited. let has = parts_there old.now world s p (in_p world.version) in counted_told (name_of p) has.0 _ q by (fits _) old new has.1 params e few (typed _) unlimited h;
 }
 
+-- one that counts rows of a table of classes
+pub class_count_question : (p : Part) → ((version : ℕ) → IsClassedVersion version → IsIn p version) → (q : Counted) (by : Option ℕ) → ((tree : ℕ) → CountFits (name_of p) (table_in p tree) q by) → (params : Row) → length params ≡ length q.parameters
+    → ((tree : ℕ) → IsCountTyped (name_of p) (table_in p tree) q by params) → IsQuestion q.text params WithClasses
+class_count_question p in_p q by fits params few typed = record {
+  select = record { parsed = parsed_by (name_of p) (table_in p 0) q by; select = select_by (name_of p) (table_in p 0) q by; read = (fits 0).read; is = refl };
+  told = λ old new e h world stood unlimited.
+      let has = parts_there old.now world stood.1 p (in_p world.version stood.0) in
+      counted_told (name_of p) has.0 _ q by (fits _) old new has.1 params e few (typed _) unlimited h;
+}
+
 -- the number that its one row counts
-module _ {S : Type 0} {text : List ℕ} {params : Row} (g : Ghosts S) (it : IsQuestion text params) (old new : Held S) (given : Row) (same : given ≡ params) (of : World → ℕ)
-    (counts : (rows : List Row) → Shown text params (state g old) (state g new) rows → (world : World) → Refines (state g old).now world → IsCount rows (of world)) where
+module _ {S : Type 0} {text : List ℕ} {params : Row} {Over : Database → World → Type 0} (g : Ghosts S) (it : IsQuestion text params Over) (old new : Held S) (given : Row) (same : given ≡ params) (of : World → ℕ)
+    (counts : (rows : List Row) → Shown text params (state g old) (state g new) rows → (world : World) → Over (state g old).now world → IsCount rows (of world)) where
   shown_as : (rows : List Row) → Shown text given (state g old) (state g new) rows → Shown text params (state g old) (state g new) rows
   shown_as rows h = subst (λ ps. Shown text ps (state g old) (state g new) rows) same h
 
-  never_failed : (fault : Fault) → (world : World) → Refines (state g old).now world → (state g old).step_limit ≡ None
+  never_failed : (fault : Fault) → (world : World) → Over (state g old).now world → (state g old).step_limit ≡ None
       → (fault ≡ Memory) ⊎ (TellsQuery text given (state g old) (state g new) fault ⊎ ((rows : List Row) × Shown text given (state g old) (state g new) rows × ((n : ℕ) → ¬ IsCount rows n))) → fault ≢ NotAProject
   never_failed fault world s limit (inl memory) = never_refused fault (inl memory)
   never_failed fault world s limit (inr (inl told)) = never_told g it old new given same fault told world s limit
   never_failed fault world s limit (inr (inr other)) = λ is. other.2 (of world) (counts other.0 (shown_as other.0 other.1) world s)
 
-  pub asked_count : (r : Result ℕ Fault) → (IsSelect text → Asks g old new r) → (IsSelect text → ServesUnlessFailed g new r) → ShowsCount g old new r text given → FailsCount g old new r text given → IfErr r IsStoreFault → HasAsked g old new r (λ found world. found ≡ of world)
+  pub asked_count : (r : Result ℕ Fault) → (IsSelect text → Asks g old new r) → (IsSelect text → ServesUnlessFailed g new r) → ShowsCount g old new r text given → FailsCount g old new r text given → IfErr r IsStoreFault → HasAsked g old new r Over (λ found world. found ≡ of world)
   asked_count r asks opens shows fails told = record {
-    asks = asks it.select;
     opens = opens it.select;
-    answers = λ clean. if_ok r _ _ (λ found h world s. h.2 (of world) (counts h.0 (shown_as h.0 h.1) world s)) (shows clean);
-    fault = told;
-    unrefused = λ clean world s any limit. if_err r _ _ (λ fault h. never_failed fault world s limit h) (fails clean);
+    reads = record {
+      asks = asks it.select;
+      fault = told;
+      found = λ clean world s. if_ok r _ _ (λ found h. h.2 (of world) (counts h.0 (shown_as h.0 h.1) world s)) (shows clean);
+      unrefused = λ clean world s any limit. if_err r _ _ (λ fault h. never_failed fault world s limit h) (fails clean);
+    };
   }
-
--- what is found of each world
-pub finds_at : {S T : Type 0} (g : Ghosts S) (old new : Held S) (of : World → T) (r : Result T Fault) → Tells g old new r (λ found world. found ≡ of world) → ForEachWorld g old new (FindsAt of r)
-finds_at g old new of r tells clean world s = if_ok r _ _ (λ found h. h world s) (tells clean)

@@ -1,5 +1,5 @@
 -- The walks of the summary over the states of instances and over the credit of grants, whole.
-use Rattle.wu_schema.proofs.Words.{Err, Error, Fault, Ghosts, HasCleanDisk, Held, IfErr, IsErrAnd, List, None, NotAProject, Ok, Option, Refines, Result, Row, Some, State, Survives, World, [], arith, column, false, fault_of, inr, length, map, number, refl, state, subst, sym, ℕ, ⊤, ◌++◌, ◌+◌, ◌<◌, ◌^◌, ◌∙◌, ◌∷◌, ◌≡◌, ◌≢◌, ◌≤◌, IsUnchanged}
+use Rattle.wu_schema.proofs.Words.{Err, Error, Fault, Ghosts, HasCleanDisk, Held, IsErrAnd, List, None, NotAProject, Ok, Option, Refines, Result, Row, Some, State, Survives, World, [], arith, column, false, fault_of, inr, length, map, number, refl, state, subst, sym, ℕ, ⊤, ◌++◌, ◌+◌, ◌<◌, ◌^◌, ◌∙◌, ◌∷◌, ◌≡◌, ◌≢◌, ◌≤◌, IsUnchanged}
 use Rattle.std.specs.Prelude.{IfOk, sum}
 use Rattle.std.proofs.lemmas.List.{length-append}
 use Rattle.sqlite.specs.Given.{Advances, FailsToAdvance, HasBegun, IsRefused}
@@ -8,12 +8,13 @@ use Rattle.wu_core.specs.declared.states.ServerState.{ServerState}
 use Rattle.wu_schema.specs.Restoring.{Restores}
 use Rattle.wu_schema.proofs.AskingLemmas.{fault_told}
 use Rattle.wu_schema.proofs.Parts.{Grants, Instances}
-use Rattle.wu_store.specs.Loading.{Asks, ForEachWorld, IsStoreFault, NotRefusedIn, ServesUnlessFailed}
+use Rattle.wu_store.specs.Loading.{IsStoreFault, ServesUnlessFailed}
+use Rattle.wu_store.specs.Reads.{FindsAt, ReadsWorld}
 use Rattle.wu_schema.specs.Reading.{IsReadFault, server_state_cell}
 use Rattle.wu_store.proofs.AskLemmas.{IsQuestion, never_broken, read_told}
 use Rattle.wu_store.proofs.LoadLemmas.{never_unread}
 use Rattle.wu_views.specs.Counting.{all_states}
-use Rattle.wu_views.specs.Summaries.{AddsState, CountsResults, CountsCredit, CountsGrants, CountsStates, FindsAt, HasRoom, IsCreditCountable, counts_of, granted_of, results_of}
+use Rattle.wu_views.specs.Summaries.{AddsState, CountsResults, CountsCredit, CountsGrants, CountsStates, HasRoom, IsCreditCountable, counts_of, granted_of, results_of}
 use Rattle.wu_views.specs.declared.counts.Granted.{Granted}
 use Rattle.wu_views.specs.declared.counts.Results.{Results}
 use Rattle.wu_views.proofs.CountLemmas.{cells_long, cells_more, credit_summed, first_cells, grants_counted, has_room, next_credit, next_state, numbers_more, numbers_summed, states_counted, sum_within}
@@ -22,12 +23,9 @@ use Rattle.wu_views.proofs.GivenLemmas.{IsWalked, end_asks, end_opens, failed_as
 
 -- what a walk does and finds, and that it is not refused
 pub record HasWalked {S T : Type 0} (g : Ghosts S) (of : World → T) (Can : World → Type 0) (Counts : State → State → T → Type 0) (old new : Held S) (result : Result T Fault) : Type 0 where
-  pub asks : Asks g old new result
   pub opens : ServesUnlessFailed g new result
-  pub fault : IfErr result IsStoreFault
   pub counted : HasCleanDisk (state g new) → IfOk result (Counts (state g old) (state g new))
-  pub found : ForEachWorld g old new (FindsAt of result)
-  pub unrefused : NotRefusedIn g old new result Can
+  pub reads : ReadsWorld g old new result (FindsAt of) Can
 
 module _ {S T : Type 0} (g : Ghosts S) (of : World → T) (Can : World → Type 0) (Counts : State → State → T → Type 0) where
   abbrev Walks : Held S → Held S → Result T Fault → Type 0
@@ -38,52 +36,60 @@ module _ {S T : Type 0} (g : Ghosts S) (of : World → T) (Can : World → Type 
   walked_handed old new fault (Ok x) same it = absurd same
   walked_handed old new fault (Err other) same it = subst (λ f. Walks old new (Err f)) (sym same) it
 
-  module _ {text : List ℕ} (it : IsQuestion text []) where
+  module _ {text : List ℕ} (it : IsQuestion text [] Refines) where
     -- where the question is refused
     pub walked_refused : (old new : Held S) {X : Type 0} (e : Error) (fault : Fault) → fault ≡ fault_of e → IsRefused g {X = X} text [] old (Err e) new → Walks old new (Err fault)
     walked_refused old new {X} e fault is none = record {
-      asks = refused_asks g text it.select [] old new {X = X} e fault is none;
       opens = refused_opens g text it.select [] old new {X = X} e fault is none;
-      fault = subst IsStoreFault (sym is) (fault_told e);
       counted = λ clean. tt;
-      found = λ clean world stands. tt;
-      unrefused = λ clean world stands can unlimited. refused_told g old world stands unlimited e fault is new {X = X} none clean it;
+      reads = record {
+        asks = refused_asks g text it.select [] old new {X = X} e fault is none;
+        fault = subst IsStoreFault (sym is) (fault_told e);
+        found = λ clean world stands. tt;
+        unrefused = λ clean world stands can unlimited. refused_told g old world stands unlimited e fault is new {X = X} none clean it;
+      };
     }
 
     module _ (old now : Held S) (given : List Row) (walk : IsWalked g text [] old now given) where
       -- where it is left with a fault
       pub walked_left : (fault : Fault) → IsReadFault fault → (HasCleanDisk (state g now) → (world : World) → Refines (state g old).now world → Can world → fault ≢ NotAProject) → Walks old now (Err fault)
       walked_left fault told unread = record {
-        asks = walk_asks g text it.select [] old now given walk (Err fault) (never_broken {U = T} (Err fault) told);
         opens = walk_opens g text it.select [] old now given walk {T = T} (Err fault);
-        fault = read_told fault told;
         counted = λ clean. tt;
-        found = λ clean world stands. tt;
-        unrefused = λ clean world stands can unlimited. unread clean world stands can;
+        reads = record {
+          asks = walk_asks g text it.select [] old now given walk (Err fault) (never_broken {U = T} (Err fault) told);
+          fault = read_told fault told;
+          found = λ clean world stands. tt;
+          unrefused = λ clean world stands can unlimited. unread clean world stands can;
+        };
       }
 
       module _ (new : Held S) (mode : now.in_transaction ≡ false → new.in_transaction ≡ false) (survives : Survives (state g now) (state g new) (λ _. ⊥)) where
         -- where a row is not read
         pub walked_failed : (e : Error) (fault : Fault) → fault ≡ fault_of e → (HasCleanDisk (state g new) → FailsToAdvance g now new e) → Walks old new (Err fault)
         walked_failed e fault is fails = record {
-          asks = failed_asks g text it.select [] old now given walk new mode survives e fault is fails;
           opens = failed_opens g text it.select [] old now given walk new mode survives e fault is fails;
-          fault = subst IsStoreFault (sym is) (fault_told e);
           counted = λ clean. tt;
-          found = λ clean world stands. tt;
-          unrefused = λ clean world stands can unlimited. failed_told g old world stands unlimited e fault is now given walk new survives fails clean it;
+          reads = record {
+            asks = failed_asks g text it.select [] old now given walk new mode survives e fault is fails;
+            fault = subst IsStoreFault (sym is) (fault_told e);
+            found = λ clean world stands. tt;
+            unrefused = λ clean world stands can unlimited. failed_told g old world stands unlimited e fault is now given walk new survives fails clean it;
+          };
         }
 
         -- where it comes to its end
         pub walked_whole : (next : Option Row) (gives : HasCleanDisk (state g new) → Advances g now new next) (same : HasCleanDisk (state g new) → IsUnchanged (state g now) (state g new)) → (x : T) → (HasCleanDisk (state g new) → Counts (state g old) (state g new) x)
-            → ForEachWorld g old new (FindsAt of (Ok x)) → Walks old new (Ok x)
+            → (HasCleanDisk (state g new) → (world : World) → Refines (state g old).now world → FindsAt of (Ok x) world) → Walks old new (Ok x)
         walked_whole next gives same x counted found = record {
-          asks = end_asks g text it.select [] old now given walk new mode survives next gives same (Ok x) (λ is. absurd cc);
           opens = end_opens g text it.select [] old now given walk new mode survives next gives same {T = T} (Ok x);
-          fault = tt;
           counted = counted;
-          found = found;
-          unrefused = λ clean world stands can unlimited. tt;
+          reads = record {
+            asks = end_asks g text it.select [] old now given walk new mode survives next gives same (Ok x) (λ is. absurd cc);
+            fault = tt;
+            found = found;
+            unrefused = λ clean world stands can unlimited. tt;
+          };
         }
 
 -- ---- the states of instances
@@ -102,14 +108,11 @@ WalksStates g = HasWalked g results_of (λ _. ⊤) CountsStates
 
 -- what is answered, once the rows are let go
 pub states_at : {S : Type 0} (g : Ghosts S) (old now new : Held S) (r : Result Results Fault) → now ≡ new → WalksStates g old now r → record {
-  asks : Asks g old new r;
   opens : ServesUnlessFailed g new r;
-  fault : IfErr r IsStoreFault;
   counted : CountsResults g old new r;
-  found : ForEachWorld g old new (FindsAt results_of r);
-  unrefused : NotRefusedIn g old new r (λ _. ⊤);
+  reads : ReadsWorld g old new r (FindsAt results_of) (λ _. ⊤);
 }
-states_at g old now new r same it = let at = subst (λ h. WalksStates g old h r) same it in record { asks = at.asks; opens = at.opens; fault = at.fault; counted = at.counted; found = at.found; unrefused = at.unrefused }
+states_at g old now new r same it = let at = subst (λ h. WalksStates g old h r) same it in record { opens = at.opens; counted = at.counted; reads = at.reads }
 
 module _ {S : Type 0} (g : Ghosts S) (old : Held S) where
   pub none_counted : (new : Held S) → (old.in_transaction ≡ false → new.in_transaction ≡ false) → Survives (state g old) (state g new) (CommitsShowing states_asked.text [] (state g old)) → (HasCleanDisk (state g new) → HasBegun g states_asked.text [] old new)
@@ -176,14 +179,11 @@ abbrev pub WalksGrants : {S : Type 0} → Ghosts S → Held S → Held S → Res
 WalksGrants g = HasWalked g granted_of IsCreditCountable CountsCredit
 
 pub grants_at : {S : Type 0} (g : Ghosts S) (old now new : Held S) (r : Result Granted Fault) → now ≡ new → WalksGrants g old now r → record {
-  asks : Asks g old new r;
   opens : ServesUnlessFailed g new r;
-  fault : IfErr r IsStoreFault;
   counted : CountsGrants g old new r;
-  found : ForEachWorld g old new (FindsAt granted_of r);
-  unrefused : NotRefusedIn g old new r IsCreditCountable;
+  reads : ReadsWorld g old new r (FindsAt granted_of) IsCreditCountable;
 }
-grants_at g old now new r same it = let at = subst (λ h. WalksGrants g old h r) same it in record { asks = at.asks; opens = at.opens; fault = at.fault; counted = at.counted; found = at.found; unrefused = at.unrefused }
+grants_at g old now new r same it = let at = subst (λ h. WalksGrants g old h r) same it in record { opens = at.opens; counted = at.counted; reads = at.reads }
 
 -- they are summed over what was there before, unchanged
 pub summed_since : (first old new : State) (granted : Granted) → IsUnchanged first old → CountsCredit old new granted → CountsCredit first new granted

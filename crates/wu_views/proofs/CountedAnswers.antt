@@ -59,7 +59,7 @@ pub states_fit : (tree : ℕ) → Fits (codes "result") (result_at tree) states_
 unfolding everything
 states_fit tree = record { shown = refl; tests = refl; strict = refl; order = refl; height = (0, tt); few = omega arith; limit = λ schema. refl; read = refl; typed = refl }
 
-pub states_question : IsQuestion states_asked.text []
+pub states_question : IsQuestion states_asked.text [] Refines
 states_question = question Instances (λ _. tt) states_asked states_fit [] refl (λ _. refl)
 
 -- the state among the cells of an instance
@@ -95,7 +95,7 @@ pub credit_fits : (tree : ℕ) → Fits (codes "credit_grant") (grant_at tree) c
 unfolding everything
 credit_fits tree = record { shown = refl; tests = refl; strict = refl; order = refl; height = (0, tt); few = omega arith; limit = λ schema. refl; read = refl; typed = refl }
 
-pub credit_question : IsQuestion credit_asked.text []
+pub credit_question : IsQuestion credit_asked.text [] Refines
 credit_question = question Grants (λ _. tt) credit_asked credit_fits [] refl (λ _. refl)
 
 shown_credit : (k : ℕ) (grants : List Grant) → first_cells (showing (col 1 5 ∷ []) [] (map stored_grant (enumerate_from k grants))) ≡ map credit_cell grants

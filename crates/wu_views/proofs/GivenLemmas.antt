@@ -155,7 +155,7 @@ never e fault is failure refused = never_refused (fault_of e) failure (sym is �
 module _ {S : Type 0} {text : List ℕ} {params : Row} (g : Ghosts S) (old : Held S) (world : World) (stands : Refines (state g old).now world) (unlimited : (state g old).step_limit ≡ None) (e : Error) (fault : Fault) (is : fault ≡ fault_of e) where
   -- where it does not begin
   module _ (new : Held S) {X : Type 0} (no : IsRefused g {X = X} text params old (Err e) new) (clean : HasCleanDisk (state g new)) where
-    pub refused_told : IsQuestion text params → fault ≢ NotAProject
+    pub refused_told : IsQuestion text params Refines → fault ≢ NotAProject
     refused_told it = never e fault is (it.told (state g old) (state g new) e (no.err clean) world stands unlimited)
 
   -- and where a row is not read
@@ -166,7 +166,7 @@ module _ {S : Type 0} {text : List ℕ} {params : Row} (g : Ghosts S) (old : Hel
     stands_now : Refines (state g now).now world
     stands_now = subst (λ (d : Database). Refines d world) (sym (walk.same was).0.now_is) stands
 
-    pub failed_told : IsQuestion text params → fault ≢ NotAProject
+    pub failed_told : IsQuestion text params Refines → fault ≢ NotAProject
     failed_told it = never e fault is (it.told (state g now) (state g new) e (fails clean text params given (walk.gave was)) world stands_now (walk.crash.limit ∙ unlimited))
 
 -- ---- what was given begins an answer

@@ -20,7 +20,8 @@ use Rattle.wu_schema.proofs.QueryLemmas.{alone}
 use Rattle.wu_schema.proofs.SelectLemmas.{CompilesTo, the}
 use Rattle.wu_schema.proofs.ToldLemmas.{query_told}
 use Rattle.wu_store.specs.StandsFor.{KnowsClasses}
-use Rattle.wu_store.proofs.ClassAnswers.{IsClassQuestion}
+use Rattle.wu_store.specs.Reads.{WithClasses}
+use Rattle.wu_store.proofs.AskLemmas.{IsQuestion}
 use Rattle.wu_views.proofs.JoinLemmas.{AskedOfTwo, FitsTwo, Item, accepts_two, cell_lowers, compiles_two, length_of, met, names_of, never_over_two, own, outputs_of, parsed_of, plain, scope_of_two, select_of, told}
 pub use Rattle.wu_views.proofs.JoinLemmas.{joined_query}
 use Rattle.wu_views.specs.declared.texts.TheConstants.{LIST_RESULTS, LIST_WORKUNITS}
@@ -274,15 +275,15 @@ module _ (old : State) (world : World) (known : KnowsClasses world) (s : Refines
         (never_over_two result work results_tests results_shows results_order old.now.trees []) unlimited e
 
 -- the SELECT of the workunits is a question
-pub workunits_question : IsClassQuestion workunits_text []
+pub workunits_question : IsQuestion workunits_text [] WithClasses
 workunits_question = record {
   select = record { parsed = workunits_parsed 0 0; select = select_of (codes "workunit") (codes "workunit_class") (workunit_at 0) (workunit_class_at 0) workunits_asked; read = workunits_read 0 0; is = refl };
-  told = λ old new e h world known s unlimited. workunits_told old world known s new e unlimited h;
+  told = λ old new e h world stood unlimited. workunits_told old world stood.0 stood.1 new e unlimited h;
 }
 
 -- the SELECT of the instances is a question
-pub results_question : IsClassQuestion results_text []
+pub results_question : IsQuestion results_text [] WithClasses
 results_question = record {
   select = record { parsed = results_parsed 0 0; select = select_of (codes "result") (codes "workunit") (result_at 0) (workunit_at 0) results_asked; read = results_read 0 0; is = refl };
-  told = λ old new e h world known s unlimited. results_told old world known s new e unlimited h;
+  told = λ old new e h world stood unlimited. results_told old world stood.0 stood.1 new e unlimited h;
 }

@@ -1,7 +1,6 @@
 mod JoinLemmas
 mod JoinTexts
 mod CountQuestions
-mod ClassQuestions
 mod LineLemmas
 mod ViewAnswers
 mod CountLemmas

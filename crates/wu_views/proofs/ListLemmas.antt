@@ -8,7 +8,9 @@ use Rattle.wu_schema.proofs.QueryLemmas.{alone}
 use Rattle.wu_schema.proofs.SelectLemmas.{Asked, CompilesTo, Fits, IsTyped, compiles, names_of, parsed_of, query_of}
 use Rattle.wu_schema.specs.Tables.{IsClassedVersion}
 use Rattle.wu_store.specs.StandsFor.{KnowsClasses}
-use Rattle.wu_store.proofs.ClassAnswers.{IsClassQuestion, class_question}
+use Rattle.wu_store.specs.Reads.{WithClasses}
+use Rattle.wu_store.proofs.AskLemmas.{IsQuestion}
+use Rattle.wu_store.proofs.ClassAnswers.{class_question}
 use Rattle.wu_views.specs.Listings.{IsRowOf, Lists}
 use Rattle.wu_views.proofs.GivenLemmas.{given_front}
 
@@ -38,7 +40,7 @@ zip_rows row_of line_of all = zip_mapped (IsRowOf row_of line_of all) row_of lin
 
 -- over tables that stand for a world with classes it compiles to a query with no recursion, and answers with these rows
 pub record AnswersAll (text : List ℕ) (rows_of : World → List Row) : Type 1 where
-  pub question : IsClassQuestion text []
+  pub question : IsQuestion text [] WithClasses
   pub compiles : (old : State) (world : World) → KnowsClasses world → Refines old.now world → (p : Parsed) × (q : Query) × (names : List Name) × CompilesTo old.now.schema text p (Select (alone q) names)
   pub found : (old new : State) (rows : List Row) → Shown text [] old new rows → (world : World) → KnowsClasses world → Refines old.now world → rows ≡ rows_of world
 
@@ -72,5 +74,5 @@ module _ {S T : Type 0} (g : Ghosts S) (text : List ℕ) (rows_of : World → Li
     select = it.question.select;
     answer = all_shown;
     front = first_shown;
-    told = λ old new error fails world known s limit. it.question.told (state g old) (state g new) error fails world known s limit;
+    told = λ old new error fails world known s limit. it.question.told (state g old) (state g new) error fails world (known, s) limit;
   }

@@ -78,10 +78,6 @@ credit_sum grants = sum_by (λ grant. grant.credit) grants
 abbrev pub granted_of : World → Granted
 granted_of world = record { grants = length world.grants; credit = credit_sum world.grants }
 
--- An answer is the value of this function for the world.
-abbrev pub FindsAt : {T : Type 0} → (World → T) → Result T Fault → World → Type 0
-FindsAt of result world = IfOk result (λ found. found ≡ of world)
-
 -- The first column of each row of an answer is a number, and all are counted and summed. So no grant is left out,
 -- whatever the tables hold.
 pub record CountsCredit (old new : State) (granted : Granted) : Type 0 where

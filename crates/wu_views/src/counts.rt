@@ -1,11 +1,11 @@
 //! The summary of a project: how much it holds.
 
-ghost use Rattle.std.specs.Prelude.{◌≤◌, ⊤, IfErr};
+ghost use Rattle.std.specs.Prelude.{◌≤◌, ⊤};
 ghost use Rattle.wu_views.specs.Counting.{class_count, import_count, workunit_count};
 ghost use Rattle.wu_views.specs.Lines.{summary_of};
-ghost use Rattle.wu_views.specs.Summaries.{AddsState, CountsGrants, CountsResults, CountsSummary, FindsAt, granted_of, HasNumbers, HasRoom, IsCountable, IsCreditCountable, others_of, project_numbers, results_of, SumsSummary};
-ghost use Rattle.wu_store.specs.Classes.{ForEachClassed, NotRefusedClass};
-ghost use Rattle.wu_store.specs.Loading.{Asks, IsStoreFault, NotRefusedIn, ForEachWorld, ServesUnlessFailed};
+ghost use Rattle.wu_views.specs.Summaries.{AddsState, CountsGrants, CountsResults, CountsSummary, granted_of, HasNumbers, HasRoom, IsCountable, IsCreditCountable, others_of, project_numbers, results_of, SumsSummary};
+ghost use Rattle.wu_store.specs.Loading.{ServesUnlessFailed};
+ghost use Rattle.wu_store.specs.Reads.{FindsAt, ReadsClassed, ReadsWorld};
 
 use crate::lines::Summary;
 use crate::questions::ask_count;
@@ -19,33 +19,25 @@ use wu_store::{next_archived_place, next_number};
 /// Returns how many workunits are present. Each has a row in the table of their classes, which is the one that is read
 /// fastest.
 fn count_workunits<S: Alter>(conn: &mut Connection<S>) -> Result<u64, Fault>
-    ensures asks { Asks S.Store conn.old conn.new result }
     ensures opens { ServesUnlessFailed S.Store conn.new result }
-    ensures fault { IfErr result IsStoreFault }
-    ensures found { ForEachClassed S.Store conn.old conn.new (FindsAt workunit_count result) }
-    ensures unrefused { NotRefusedClass S.Store conn.old conn.new result (λ _. ⊤) }
+    ensures reads { ReadsClassed S.Store conn.old conn.new result (FindsAt workunit_count)
+        (λ _. ⊤) }
 {
     ask_count(conn, COUNT_WORKUNITS, &[])
 }
 
 /// Returns how many files were imported, each once.
 fn count_imports<S: Alter>(conn: &mut Connection<S>) -> Result<u64, Fault>
-    ensures asks { Asks S.Store conn.old conn.new result }
     ensures opens { ServesUnlessFailed S.Store conn.new result }
-    ensures fault { IfErr result IsStoreFault }
-    ensures found { ForEachWorld S.Store conn.old conn.new (FindsAt import_count result) }
-    ensures unrefused { NotRefusedIn S.Store conn.old conn.new result (λ _. ⊤) }
+    ensures reads { ReadsWorld S.Store conn.old conn.new result (FindsAt import_count) (λ _. ⊤) }
 {
     ask_count(conn, COUNT_IMPORTS, &[])
 }
 
 /// Returns how many hosts have a class.
 fn count_classes<S: Alter>(conn: &mut Connection<S>) -> Result<u64, Fault>
-    ensures asks { Asks S.Store conn.old conn.new result }
     ensures opens { ServesUnlessFailed S.Store conn.new result }
-    ensures fault { IfErr result IsStoreFault }
-    ensures found { ForEachClassed S.Store conn.old conn.new (FindsAt class_count result) }
-    ensures unrefused { NotRefusedClass S.Store conn.old conn.new result (λ _. ⊤) }
+    ensures reads { ReadsClassed S.Store conn.old conn.new result (FindsAt class_count) (λ _. ⊤) }
 {
     ask_count(conn, COUNT_CLASSES, &[])
 }
@@ -89,20 +81,14 @@ fn with_state(so_far: Results, state: ServerState) -> Results
 
 /// Counts the instances by state while their rows are read, one at a time. Returns `NotAProject` if a row has no state.
 fn count_results<S: Alter>(conn: &mut Connection<S>) -> Result<Results, Fault>
-    // Begins no transaction and commits nothing; except after `Memory` and `Broken` all is as
-    // before; `Broken` means a failed disk or a closed connection.
-    ensures asks { Asks S.Store conn.old conn.new result }
     // The connection is open afterwards, except after `Memory` and `Broken`.
     ensures opens { ServesUnlessFailed S.Store conn.new result }
-    // A fault is `Memory`, `Broken` or `NotAProject`.
-    ensures fault { IfErr result IsStoreFault }
     // After `Ok` each row of `result`, whatever the tables hold, has a state, and is counted in all
     // and in its state.
     ensures counted { CountsResults S.Store conn.old conn.new result }
     // In each represented world these are the numbers of all instances, and of those in each state.
-    ensures found { ForEachWorld S.Store conn.old conn.new (FindsAt results_of result) }
     // Over a represented world, with no limit on steps, `NotAProject` is not returned.
-    ensures unrefused { NotRefusedIn S.Store conn.old conn.new result (λ _. ⊤) }
+    ensures reads { ReadsWorld S.Store conn.old conn.new result (FindsAt results_of) (λ _. ⊤) }
 {
     let mut found = Results {
         all: 0,
@@ -138,18 +124,12 @@ struct Others {
 
 /// Returns how many workunits, archived workunits, imports and hosts with a class there are.
 fn count_others<S: Alter>(conn: &mut Connection<S>) -> Result<Others, Fault>
-    // Begins no transaction and commits nothing; except after `Memory` and `Broken` all is as
-    // before; `Broken` means a failed disk or a closed connection.
-    ensures asks { Asks S.Store conn.old conn.new result }
     // The connection is open afterwards, except after `Memory` and `Broken`.
     ensures opens { ServesUnlessFailed S.Store conn.new result }
-    // A fault is `Memory`, `Broken` or `NotAProject`.
-    ensures fault { IfErr result IsStoreFault }
     // In each represented world with classes these are the numbers of workunits, archived rows,
     // imports and hosts with a class.
-    ensures found { ForEachClassed S.Store conn.old conn.new (FindsAt others_of result) }
     // Over such a world, with no limit on steps, `NotAProject` is not returned.
-    ensures unrefused { NotRefusedClass S.Store conn.old conn.new result (λ _. ⊤) }
+    ensures reads { ReadsClassed S.Store conn.old conn.new result (FindsAt others_of) (λ _. ⊤) }
 {
     let workunits = count_workunits(conn)?;
     let place = next_archived_place(conn)?;
@@ -173,21 +153,16 @@ struct Granted {
 /// Counts the grants and adds up their credit while their rows are read, one at a time. Returns `NotAProject` if a row
 /// has no credit, or if the sum is not below 2^64.
 fn count_grants<S: Alter>(conn: &mut Connection<S>) -> Result<Granted, Fault>
-    // Begins no transaction and commits nothing; except after `Memory` and `Broken` all is as
-    // before; `Broken` means a failed disk or a closed connection.
-    ensures asks { Asks S.Store conn.old conn.new result }
     // The connection is open afterwards, except after `Memory` and `Broken`.
     ensures opens { ServesUnlessFailed S.Store conn.new result }
-    // A fault is `Memory`, `Broken` or `NotAProject`.
-    ensures fault { IfErr result IsStoreFault }
     // After `Ok` each row of `credit_grant`, whatever the tables hold, has a number, and is counted
     // and summed.
     ensures counted { CountsGrants S.Store conn.old conn.new result }
     // In each represented world these are the number of all grants and their credit.
-    ensures found { ForEachWorld S.Store conn.old conn.new (FindsAt granted_of result) }
     // Over a represented world with all credit below 2^64, with no limit on steps, `NotAProject` is
     // not returned.
-    ensures unrefused { NotRefusedIn S.Store conn.old conn.new result IsCreditCountable }
+    ensures reads { ReadsWorld S.Store conn.old conn.new result (FindsAt granted_of)
+        IsCreditCountable }
 {
     let mut grants = 0;
     let mut credit = 0u64;
@@ -214,12 +189,9 @@ fn count_grants<S: Alter>(conn: &mut Connection<S>) -> Result<Granted, Fault>
 
 /// Returns the version of the project's schema. Returns `NotAProject` if there is no project.
 fn version<S: Alter>(conn: &mut Connection<S>) -> Result<u64, Fault>
-    ensures asks { Asks S.Store conn.old conn.new result }
     ensures opens { ServesUnlessFailed S.Store conn.new result }
-    ensures fault { IfErr result IsStoreFault }
-    ensures found { ForEachWorld S.Store conn.old conn.new
-        (FindsAt (λ world. world.version) result) }
-    ensures unrefused { NotRefusedIn S.Store conn.old conn.new result (λ world. 1 ≤ world.version) }
+    ensures reads { ReadsWorld S.Store conn.old conn.new result (FindsAt (λ world. world.version))
+        (λ world. 1 ≤ world.version) }
 {
     match version_of(conn)? {
         Some(version) => Ok(version),
@@ -236,18 +208,13 @@ struct Numbers {
 
 /// Returns the numbers of the project's row.
 fn read_numbers<S: Alter>(conn: &mut Connection<S>) -> Result<Numbers, Fault>
-    // Begins no transaction and commits nothing; except after `Memory` and `Broken` all is as
-    // before; `Broken` means a failed disk or a closed connection.
-    ensures asks { Asks S.Store conn.old conn.new result }
     // The connection is open afterwards, except after `Memory` and `Broken`.
     ensures opens { ServesUnlessFailed S.Store conn.new result }
-    // A fault is `Memory`, `Broken` or `NotAProject`.
-    ensures fault { IfErr result IsStoreFault }
     // In each represented world these are the version and the next number.
-    ensures found { ForEachWorld S.Store conn.old conn.new (FindsAt project_numbers result) }
     // Over a represented world with both in range, with no limit on steps, `NotAProject` is not
     // returned.
-    ensures unrefused { NotRefusedIn S.Store conn.old conn.new result HasNumbers }
+    ensures reads { ReadsWorld S.Store conn.old conn.new result (FindsAt project_numbers)
+        HasNumbers }
 {
     let version = version(conn)?;
     let next_number = next_number(conn)?;
@@ -261,13 +228,8 @@ fn read_numbers<S: Alter>(conn: &mut Connection<S>) -> Result<Numbers, Fault>
 ///
 /// Returns `NotAProject` if a row is no value, or if the credit of all grants is not below 2^64.
 pub fn summary<S: Alter>(conn: &mut Connection<S>) -> Result<Summary, Fault>
-    // Begins no transaction and commits nothing; except after `Memory` and `Broken` all is as
-    // before; `Broken` means a failed disk or a closed connection.
-    ensures asks { Asks S.Store conn.old conn.new result }
     // The connection is open afterwards, except after `Memory` and `Broken`.
     ensures opens { ServesUnlessFailed S.Store conn.new result }
-    // A fault is `Memory`, `Broken` or `NotAProject`.
-    ensures fault { IfErr result IsStoreFault }
     // After `Ok` each row of `result`, whatever the tables hold, has a state, and is counted in all
     // and in its state.
     ensures counted { CountsSummary S.Store conn.old conn.new result }
@@ -275,10 +237,9 @@ pub fn summary<S: Alter>(conn: &mut Connection<S>) -> Result<Summary, Fault>
     // and summed.
     ensures summed { SumsSummary S.Store conn.old conn.new result }
     // In each represented world with classes it is the summary of that world.
-    ensures found { ForEachClassed S.Store conn.old conn.new (FindsAt summary_of result) }
     // Over such a world with version, next number and all credit in range, with no limit on steps,
     // `NotAProject` is not returned.
-    ensures unrefused { NotRefusedClass S.Store conn.old conn.new result IsCountable }
+    ensures reads { ReadsClassed S.Store conn.old conn.new result (FindsAt summary_of) IsCountable }
 {
     let numbers = read_numbers(conn)?;
     let results = count_results(conn)?;

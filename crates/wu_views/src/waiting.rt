@@ -1,10 +1,9 @@
 //! What waits for the passes of a project.
 
-ghost use Rattle.std.specs.Prelude.{⊤, IfErr};
-ghost use Rattle.wu_views.specs.Summaries.{FindsAt};
+ghost use Rattle.std.specs.Prelude.{⊤};
 ghost use Rattle.wu_views.specs.Waiting.{all_passes, due_count, FindsDueLines};
-ghost use Rattle.wu_store.specs.Loading.{Asks, IsStoreFault, ServesUnlessFailed};
-ghost use Rattle.wu_store.specs.StandsFor.{ForEachQueued, NotRefusedQueued};
+ghost use Rattle.wu_store.specs.Loading.{ServesUnlessFailed};
+ghost use Rattle.wu_store.specs.Reads.{FindsAt, ReadsQueued};
 
 use sqlite::{Alter, Connection};
 use std::alloc::Global;
@@ -41,12 +40,9 @@ fn count_due<S: Alter>(
     pass: Pass,
     now: Moment,
 ) -> Result<u64, Fault>
-    ensures asks { Asks S.Store conn.old conn.new result }
     ensures opens { ServesUnlessFailed S.Store conn.new result }
-    ensures fault { IfErr result IsStoreFault }
-    ensures found { ForEachQueued S.Store conn.old conn.new
-        (FindsAt (λ world. due_count now world pass) result) }
-    ensures unrefused { NotRefusedQueued S.Store conn.old conn.new result (λ _. ⊤) }
+    ensures reads { ReadsQueued S.Store conn.old conn.new result
+        (FindsAt (λ world. due_count now world pass)) (λ _. ⊤) }
 {
     let due = due_numbers(conn, alloc, pass, now, 0, MANY)?;
     let count = due.len() as u64;
@@ -66,18 +62,12 @@ pub fn due_lines<S: Alter>(
     alloc: Global,
     now: Moment,
 ) -> Result<Vec<DueLine>, Fault>
-    // Begins no transaction and commits nothing; except after `Memory` and `Broken` all is as
-    // before; `Broken` means a failed disk or a closed connection.
-    ensures asks { Asks S.Store conn.old conn.new result }
     // The connection is open afterwards, except after `Memory` and `Broken`.
     ensures opens { ServesUnlessFailed S.Store conn.new result }
-    // A fault is `Memory`, `Broken` or `NotAProject`.
-    ensures fault { IfErr result IsStoreFault }
     // In each represented world with classes and its queue each pass has its line, with the number
     // of the workunits that it changes.
-    ensures found { ForEachQueued S.Store conn.old conn.new (FindsDueLines now result) }
     // Over such a world, with no limit on steps, `NotAProject` is not returned.
-    ensures unrefused { NotRefusedQueued S.Store conn.old conn.new result (λ _. ⊤) }
+    ensures reads { ReadsQueued S.Store conn.old conn.new result (FindsDueLines now) (λ _. ⊤) }
 {
     let mut lines = Vec::new(alloc);
     for pass in PASSES {

@@ -3,13 +3,13 @@
 ghost use Rattle.std.specs.Prelude.{◌≡◌, true, false, [], Ok, Err, IfErr, IfOk, IsTrue, OnOk};
 ghost use Rattle.sqlite.specs.Held.{state};
 ghost use Rattle.wu_machine.specs.Machine.{has_right_limits, is_upgrade};
-ghost use Rattle.wu_plans.specs.Planning.{ForEachProject, IsReadyAt, NeverEnded, NotRefusedOver, PlansAt, PlansFor};
+ghost use Rattle.wu_plans.specs.Planning.{IsReadyAt, PlansAt, PlansFor, PlansProject};
 ghost use Rattle.wu_machine.specs.Commands.{request_of};
 ghost use Rattle.wu_machine.specs.Sound.{IsProject};
-ghost use Rattle.wu_store.specs.Loading.{Asks, ServesUnlessFailed, StaysUnlessFailed};
+ghost use Rattle.wu_store.specs.Loading.{ServesUnlessFailed, StaysUnlessFailed};
 ghost use Rattle.wu_passes.specs.Standing.{IsCutBy};
 ghost use Rattle.wu_passes.specs.Adopting.{Adopts, KnowsVersion, older_than_present, RefusesAdoption, StartsOver, TellsNew};
-ghost use Rattle.wu_passes.specs.Projects.{AnswersEnded, AsksOn, CarriesOut, CarriesOutFrom, connection_of, FailsAgain, GoesOnAgain, IsSessionOpen, has_ended, is_new, IsSessionEnded, KeepsAsking, KeepsSession, KeepsVersion, KnowsTables, LeavesIdle, LeavesUntouched, PlansOn, ReadsUnrefused, RefusesEarly, RunsOver, refused_for, ServesOn, ServesRight, older_version, state_of, TellsWhy};
+ghost use Rattle.wu_passes.specs.Projects.{AnswersEnded, CarriesOut, CarriesOutFrom, connection_of, FailsAgain, GoesOnAgain, IsSessionOpen, has_ended, is_new, IsSessionEnded, KeepsAsking, KeepsSession, KeepsVersion, KnowsTables, LeavesIdle, LeavesUntouched, PlansOn, RefusesEarly, RunsOver, refused_for, ServesOn, ServesRight, older_version, state_of, TellsWhy};
 
 use crate::commit::change_all;
 use crate::project::Project;
@@ -100,13 +100,9 @@ fn plan_at<'a, S: Alter>(
     command: &'a Command,
 ) -> Result<Plan<'a>, Fault>
     requires { has_right_limits (request_of command.now) ≡ true }
-    ensures asks { Asks S.Store conn.old conn.new result }
     ensures opens { StaysUnlessFailed S.Store conn.old conn.new result }
-    ensures never { NeverEnded result }
-    ensures unrefused { NotRefusedOver S.Store conn.old conn.new result
-        (IsReadyAt version (request_of command.now)) }
-    ensures plan { ForEachProject S.Store conn.old conn.new
-        (PlansAt version (request_of command.now) result) }
+    ensures reads { PlansProject S.Store conn.old conn.new result
+        (PlansAt version (request_of command.now)) (IsReadyAt version (request_of command.now)) }
 {
     match command {
         Command::Batch(batch) => plan_batch(conn, alloc, batch),
@@ -143,12 +139,9 @@ fn plan<'a, S: Alter>(
     command: &'a Command,
 ) -> Result<Plan<'a>, Fault>
     requires { has_right_limits (request_of command.now) ≡ true }
-    ensures asks { Asks S.Store conn.old conn.new result }
     ensures opens { ServesUnlessFailed S.Store conn.new result }
-    ensures never { NeverEnded result }
-    ensures unrefused { NotRefusedOver S.Store conn.old conn.new result IsProject }
-    ensures plan { ForEachProject S.Store conn.old conn.new
-        (PlansFor (request_of command.now) result) }
+    ensures reads { PlansProject S.Store conn.old conn.new result
+        (PlansFor (request_of command.now)) IsProject }
 {
     let version = known_version(conn)?;
     if version < PRESENT_VERSION && !is_upgrade(command) {
@@ -365,11 +358,8 @@ impl<S: Alter> Project<S> {
         // Before the transaction only `Broken` ends the session, and it always does; the session
         // stays over its version.
         ensures session { KeepsAsking self.old self.new result }
-        ensures asks { AsksOn self.old self.new result }
         ensures opens { ServesOn self.new result }
-        ensures never { NeverEnded result }
-        ensures unrefused { ReadsUnrefused self.old self.new result }
-        ensures plan { PlansOn self.old self.new command.now result }
+        ensures reads { PlansOn self.old self.new command.now result }
     {
         // outside a transaction what is shown is what is committed
         let is_idle = self.conn.is_autocommit();

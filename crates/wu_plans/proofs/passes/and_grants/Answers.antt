@@ -1,30 +1,20 @@
-use Rattle.wu_plans.proofs.AskLemmas.{asks_handed, asks_made, handed_on}
-use Rattle.wu_plans.proofs.ExitLemmas.{handed_told, memory_told, memory_unbroken, memory_unrefused}
+use Rattle.wu_store.proofs.AskLemmas.{reads_handed}
+use Rattle.wu_plans.proofs.AskLemmas.{asks_made}
+use Rattle.wu_plans.proofs.ExitLemmas.{memory_told, memory_unbroken, memory_unrefused}
 use Rattle.std.proofs.Common.{length, rules, ◌<◌}
 use Rattle.wu_schema.proofs.CallLemmas.{ok_on}
 use Rattle.wu_plans.proofs.PassPlanLemmas.{has_grants}
 use Rattle.wu_plans.proofs.passes.and_grants.Goals as goal
 
-pub returns-in_err-place-clause-unrefused : goal.returns-in_err-place-clause-unrefused
-returns-in_err-place-clause-unrefused g c clean world stands limit = handed_on c.from_residual.result c.in_err-place.field-0.0 c.from_residual.ensures.1 (c.in_err-place.ensures.unrefused clean world stands tt limit)
+pub returns-in_err-place : goal.returns-in_err-place
+returns-in_err-place g c = reads_handed g.S.Store _ _ c.from_residual.result c.in_err-place.field-0.0 c.from_residual.ensures.1 c.in_err-place.ensures.reads (λ other told world. tt) (λ world stands any. tt)
 
-pub returns-in_err-place-clause-asks : goal.returns-in_err-place-clause-asks
-returns-in_err-place-clause-asks g c = asks_handed g.S.Store _ _ c.from_residual.result c.in_err-place.field-0.0 c.from_residual.ensures.1 c.in_err-place.ensures.asks
-
-pub returns-in_err-place-clause-fault : goal.returns-in_err-place-clause-fault
-returns-in_err-place-clause-fault g c = handed_told c.from_residual.result c.in_err-place.field-0.0 c.from_residual.ensures.1 c.in_err-place.ensures.fault
-
-pub returns-clause-asks : goal.returns-clause-asks
-returns-clause-asks g c = asks_made g.S.Store _ _ c.in_ok-place.place c.with_grants.result (memory_unbroken c.with_grants.result c.with_grants.ensures.fault) c.in_ok-place.ensures.asks
-
-pub returns-clause-fault : goal.returns-clause-fault
-returns-clause-fault g c = memory_told c.with_grants.result c.with_grants.ensures.fault
-
-pub returns-clause-unrefused : goal.returns-clause-unrefused
-returns-clause-unrefused g c clean world stands limit = memory_unrefused c.with_grants.result c.with_grants.ensures.fault
-
-pub returns-clause-added : goal.returns-clause-added
-returns-clause-added g c clean world stands =
-    let grants = c.args.grants.items in
-    let some : 0 < length grants = search rules in
-    ok_on c.with_grants.result _ _ (has_grants world c.in_ok-place.place grants c.args.changes.now.items c.with_grants.new.changes.items (c.in_ok-place.ensures.place clean world stands) some) c.with_grants.ensures.added
+pub returns : goal.returns
+returns g c = record {
+  asks = asks_made g.S.Store _ _ c.in_ok-place.place c.with_grants.result (memory_unbroken c.with_grants.result c.with_grants.ensures.fault) c.in_ok-place.ensures.reads.asks;
+  fault = memory_told c.with_grants.result c.with_grants.ensures.fault;
+  found = λ clean world stands. let grants = c.args.grants.items in
+      let some : 0 < length grants = search rules in
+      ok_on c.with_grants.result _ _ (has_grants world c.in_ok-place.place grants c.args.changes.now.items c.with_grants.new.changes.items (c.in_ok-place.ensures.reads.found clean world stands) some) c.with_grants.ensures.added;
+  unrefused = λ clean world stands any limit. memory_unrefused c.with_grants.result c.with_grants.ensures.fault;
+}

@@ -4,22 +4,24 @@ use Rattle.wu_plans.proofs.PlanLemmas.{classed}
 use Rattle.wu_plans.proofs.ExitLemmas.{handed_going, told_going}
 use Rattle.wu_plans.proofs.passes.plan_images.Goals as goal
 
-pub returns-in_err-taken-clause-unrefused : goal.returns-in_err-taken-clause-unrefused
-returns-in_err-taken-clause-unrefused g c clean world stands (is, project) limit =
+pub returns-in_err-taken-clause-reads : goal.returns-in_err-taken-clause-reads
+returns-in_err-taken-clause-reads g c =
+    let r = c.from_residual.result in
+    let fault = c.in_err-taken.field-0.0 in
+    let same = c.from_residual.ensures.1 in
+    let it = c.in_err-taken.ensures.reads in
     let low : c.args.ask.now.limit < 2 ^ 63 = search rules in
-    handed_on c.from_residual.result c.in_err-taken.field-0.0 c.from_residual.ensures.1 (c.in_err-taken.ensures.unrefused low clean world (classed world is) stands project.storable limit)
+    record {
+      asks = asks_handed g.S.Store _ _ r fault same it.asks;
+      fault = handed_going r fault same it.fault;
+      found = λ clean world stands is project. rw (handed_is r fault same) (inr it.fault);
+      unrefused = λ clean world stands can limit. handed_on r fault same (it.unrefused clean world (classed world can.0, stands) (low, can.1.storable) limit);
+    }
 
-pub returns-in_err-taken-clause-asks : goal.returns-in_err-taken-clause-asks
-returns-in_err-taken-clause-asks g c = asks_handed g.S.Store _ _ c.from_residual.result c.in_err-taken.field-0.0 c.from_residual.ensures.1 c.in_err-taken.ensures.asks
-
-pub returns-in_err-taken-clause-never : goal.returns-in_err-taken-clause-never
-returns-in_err-taken-clause-never g c = handed_going c.from_residual.result c.in_err-taken.field-0.0 c.from_residual.ensures.1 c.in_err-taken.ensures.fault
-
-pub returns-in_err-taken-clause-plan : goal.returns-in_err-taken-clause-plan
-returns-in_err-taken-clause-plan g c clean world stands is project = rw (handed_is c.from_residual.result c.in_err-taken.field-0.0 c.from_residual.ensures.1) (inr c.in_err-taken.ensures.fault)
-
-pub returns-clause-asks : goal.returns-clause-asks
-returns-clause-asks g c = asks_then g.S.Store c.args.conn.now c.load_due.new.conn c.plan_taken.new.conn c.in_ok-taken.taken c.in_ok-taken.ensures.asks c.plan_taken.result c.plan_taken.ensures.asks
-
-pub returns-clause-never : goal.returns-clause-never
-returns-clause-never g c = told_going c.plan_taken.result c.plan_taken.ensures.fault
+pub returns-clause-reads : goal.returns-clause-reads
+returns-clause-reads g c = record {
+  asks = asks_then g.S.Store c.args.conn.now c.load_due.new.conn c.plan_taken.new.conn c.in_ok-taken.taken c.in_ok-taken.ensures.reads.asks c.plan_taken.result c.plan_taken.ensures.asks;
+  fault = told_going c.plan_taken.result c.plan_taken.ensures.fault;
+  found = search rules;
+  unrefused = search rules;
+}

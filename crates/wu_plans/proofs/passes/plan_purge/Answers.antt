@@ -10,32 +10,37 @@ use Rattle.wu_plans.proofs.PlanLemmas.{classed}
 use Rattle.wu_plans.proofs.ExitLemmas.{handed_going}
 use Rattle.wu_plans.proofs.passes.plan_purge.Goals as goal
 
-pub returns-in_err-numbers-clause-unrefused : goal.returns-in_err-numbers-clause-unrefused
-returns-in_err-numbers-clause-unrefused g c clean world stands (is, project) limit =
+pub returns-in_err-numbers-clause-reads : goal.returns-in_err-numbers-clause-reads
+returns-in_err-numbers-clause-reads g c =
+    let r = c.from_residual.result in
+    let fault = c.in_err-numbers.field-0.0 in
+    let same = c.from_residual.ensures.1 in
+    let it = c.in_err-numbers.ensures.reads in
     let low : c.args.ask.now.limit < 2 ^ 63 = search rules in
-    handed_on c.from_residual.result c.in_err-numbers.field-0.0 c.from_residual.ensures.1 (c.in_err-numbers.ensures.unrefused low clean world (classed world is) stands tt limit)
+    record {
+      asks = asks_handed g.S.Store _ _ r fault same it.asks;
+      fault = handed_going r fault same it.fault;
+      found = λ clean world stands is project. rw (handed_is r fault same) (inr it.fault);
+      unrefused = λ clean world stands can limit. handed_on r fault same (it.unrefused clean world (classed world can.0, stands) low limit);
+    }
 
-pub returns-in_err-numbers-clause-asks : goal.returns-in_err-numbers-clause-asks
-returns-in_err-numbers-clause-asks g c = asks_handed g.S.Store _ _ c.from_residual.result c.in_err-numbers.field-0.0 c.from_residual.ensures.1 c.in_err-numbers.ensures.asks
+pub returns-clause-reads : goal.returns-clause-reads
+returns-clause-reads g c = record {
+  asks = asks_made g.S.Store _ _ c.in_ok-numbers.numbers _ (λ is. absurd cc) c.in_ok-numbers.ensures.reads.asks;
+  fault = search rules;
+  found = λ clean world stands is project. let counted : c.len-count.result ≡ length c.in_ok-numbers.numbers.items = search rules in
+      let numbers = c.in_ok-numbers.ensures.reads.found clean world (classed world is, stands) in
+      let planned = purge_planned (state g.S.Store c.args.conn.now).now world stands.refines is c.args.ask.now c.requires.purge c.requires.right c.in_ok-numbers.numbers.items numbers c.len-count.result counted in
+      subst (λ cs. Plans world (asked c.args.ask.now) (answer.Passed c.args.ask.now.pass c.len-count.result) cs) (sym c.in_ok-changes.ensures.all) planned;
+  unrefused = search rules;
+}
 
-pub returns-in_err-numbers-clause-never : goal.returns-in_err-numbers-clause-never
-returns-in_err-numbers-clause-never g c = handed_going c.from_residual.result c.in_err-numbers.field-0.0 c.from_residual.ensures.1 c.in_err-numbers.ensures.fault
-
-pub returns-in_err-numbers-clause-plan : goal.returns-in_err-numbers-clause-plan
-returns-in_err-numbers-clause-plan g c clean world stands is project = rw (handed_is c.from_residual.result c.in_err-numbers.field-0.0 c.from_residual.ensures.1) (inr c.in_err-numbers.ensures.fault)
-
-pub returns-clause-plan : goal.returns-clause-plan
-returns-clause-plan g c clean world stands is project =
-    let counted : c.len-count.result ≡ length c.in_ok-numbers.numbers.items = search rules in
-    let numbers = c.in_ok-numbers.ensures.due clean world (classed world is) stands in
-    let planned = purge_planned (state g.S.Store c.args.conn.now).now world stands.refines is c.args.ask.now c.requires.purge c.requires.right c.in_ok-numbers.numbers.items numbers c.len-count.result counted in
-    subst (λ cs. Plans world (asked c.args.ask.now) (answer.Passed c.args.ask.now.pass c.len-count.result) cs) (sym c.in_ok-changes.ensures.all) planned
-
-pub returns-in_err-changes-clause-asks : goal.returns-in_err-changes-clause-asks
-returns-in_err-changes-clause-asks g c =
-    let r = c.from_residual-in_err-changes.result in
-    let told = read_handed r c.in_err-changes.field-0.0 c.from_residual-in_err-changes.ensures.1 (inl c.in_err-changes.ensures.fault) in
-    asks_row g.S.Store _ _ c.in_ok-numbers.numbers r told c.in_ok-numbers.ensures.asks
-
-pub returns-clause-asks : goal.returns-clause-asks
-returns-clause-asks g c = asks_made g.S.Store _ _ c.in_ok-numbers.numbers _ (λ is. absurd cc) c.in_ok-numbers.ensures.asks
+pub returns-in_err-changes-clause-reads : goal.returns-in_err-changes-clause-reads
+returns-in_err-changes-clause-reads g c = record {
+  asks = let r = c.from_residual-in_err-changes.result in
+      let told = read_handed r c.in_err-changes.field-0.0 c.from_residual-in_err-changes.ensures.1 (inl c.in_err-changes.ensures.fault) in
+      asks_row g.S.Store _ _ c.in_ok-numbers.numbers r told c.in_ok-numbers.ensures.reads.asks;
+  fault = search rules;
+  found = search rules;
+  unrefused = search rules;
+}

@@ -4,8 +4,8 @@ use Rattle.wu_schema.proofs.Parts.{HostClasses}
 use Rattle.wu_schema.proofs.InsertEffect.{also, no_more}
 use Rattle.wu_schema.proofs.ReadLemmas.{if_ok}
 use Rattle.wu_store.specs.Classes.{class_named}
-use Rattle.wu_store.proofs.AskLemmas.{asks_handed, asks_made, asks_row, fault_handed, fault_read, handed_on, never_err, nothing_handed, opens_handed, opens_made}
-use Rattle.wu_store.proofs.ClassAnswers.{asked_class, host_asked, host_fits, host_found, none_shown, row_named, shown_class}
+use Rattle.wu_store.proofs.AskLemmas.{asks_made, asks_row, fault_read, never_err, opens_handed, opens_made, asked_row, reads_handed}
+use Rattle.wu_store.proofs.ClassAnswers.{class_question, host_asked, host_fits, host_found, none_shown, row_named, shown_class}
 use Rattle.wu_store.proofs.LoadLemmas.{never_unread}
 use Rattle.wu_store.proofs.classes.class_of.Goals as goal
 
@@ -17,14 +17,11 @@ returns-in_err-row g c =
     let fault = c.in_err-row.field-0.0 in
     let r = c.from_residual.result in
     let same = c.from_residual.ensures.1 in
-    let it = asked_class HostClasses (λ version known. known) host_asked host_fits (Text host ∷ []) refl (λ _. refl) g.S.Store c.args.conn.now c.ask_row.new.conn _ given (row_named host)
+    let it = asked_row g.S.Store (class_question HostClasses (λ version known. known) host_asked host_fits (Text host ∷ []) refl (λ _. refl)) c.args.conn.now c.ask_row.new.conn _ given (row_named host)
     (host_found (state g.S.Store c.args.conn.now) (state g.S.Store c.ask_row.new.conn) host) (Err fault) q.asks q.opens q.shows q.fails q.told in
     record {
-      asks = asks_handed g.S.Store _ _ r fault same it.asks;
       opens = opens_handed r fault same g.S.Store c.ask_row.new.conn it.opens;
-      fault = fault_handed r fault same it.fault;
-      found = λ clean. nothing_handed r fault same _;
-      unrefused = λ clean world known s can limit. handed_on r fault same (it.unrefused clean world known s limit);
+      reads = reads_handed g.S.Store _ _ r fault same it.reads (λ other told world. tt) (λ world stood can. tt);
     }
 
 pub returns-in-Some : goal.returns-in-Some
@@ -35,14 +32,16 @@ returns-in-Some g c =
     let given = also (ap bound_value c.params-to_sql.ensures ∙ ap (λ t. Text t) c.as_str.ensures) no_more in
     let r = c.class_at.result in
     let reads = c.class_at.ensures in
-    let it = asked_class HostClasses (λ version known. known) host_asked host_fits (Text host ∷ []) refl (λ _. refl) g.S.Store c.args.conn.now c.ask_row.new.conn _ given (row_named host)
+    let it = asked_row g.S.Store (class_question HostClasses (λ version known. known) host_asked host_fits (Text host ∷ []) refl (λ _. refl)) c.args.conn.now c.ask_row.new.conn _ given (row_named host)
     (host_found (state g.S.Store c.args.conn.now) (state g.S.Store c.ask_row.new.conn) host) (Ok row) q.asks q.opens q.shows q.fails q.told in
     record {
-      asks = asks_row g.S.Store _ _ row r reads.refused it.asks;
       opens = opens_made g.S.Store c.ask_row.new.conn r it.opens;
-      fault = fault_read r reads.refused;
-      found = λ clean. if_ok r _ _ (λ x value world known s. let e : number x ≡ number (class_named host world) = sym value.0 ∙ shown_class _ c.in-Some.row (sym (it.answers clean world known s) ∙ c.in-Some.is) in cc) reads.value;
-      unrefused = λ clean world known s can limit. never_unread number IsClass _ r (class_named host world) reads can (shown_class _ c.in-Some.row (sym (it.answers clean world known s) ∙ c.in-Some.is));
+      reads = record {
+        asks = asks_row g.S.Store _ _ row r reads.refused it.reads.asks;
+        fault = fault_read r reads.refused;
+        found = λ clean world stood. if_ok r _ _ (λ x value. let e : number x ≡ number (class_named host world) = sym value.0 ∙ shown_class _ c.in-Some.row (sym (it.reads.found clean world stood) ∙ c.in-Some.is) in cc) reads.value;
+        unrefused = λ clean world stood can limit. never_unread number IsClass _ r (class_named host world) reads can (shown_class _ c.in-Some.row (sym (it.reads.found clean world stood) ∙ c.in-Some.is));
+      };
     }
 
 pub returns-in-None : goal.returns-in-None
@@ -51,12 +50,14 @@ returns-in-None g c =
     let host = c.args.host.now in
     let row = c.in_ok-row.row in
     let given = also (ap bound_value c.params-to_sql.ensures ∙ ap (λ t. Text t) c.as_str.ensures) no_more in
-    let it = asked_class HostClasses (λ version known. known) host_asked host_fits (Text host ∷ []) refl (λ _. refl) g.S.Store c.args.conn.now c.ask_row.new.conn _ given (row_named host)
+    let it = asked_row g.S.Store (class_question HostClasses (λ version known. known) host_asked host_fits (Text host ∷ []) refl (λ _. refl)) c.args.conn.now c.ask_row.new.conn _ given (row_named host)
     (host_found (state g.S.Store c.args.conn.now) (state g.S.Store c.ask_row.new.conn) host) (Ok row) q.asks q.opens q.shows q.fails q.told in
     record {
-      asks = asks_made g.S.Store _ _ row (Ok 0) (never_err 0) it.asks;
       opens = it.opens;
-      fault = tt;
-      found = λ clean world known s. sym (none_shown _ (sym (it.answers clean world known s) ∙ c.in-None.is));
-      unrefused = λ clean world known s can limit. tt;
+      reads = record {
+        asks = asks_made g.S.Store _ _ row (Ok 0) (never_err 0) it.reads.asks;
+        fault = tt;
+        found = λ clean world stood. sym (none_shown _ (sym (it.reads.found clean world stood) ∙ c.in-None.is));
+        unrefused = λ clean world stood can limit. tt;
+      };
     }

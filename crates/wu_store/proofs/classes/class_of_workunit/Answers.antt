@@ -4,9 +4,9 @@ use Rattle.wu_core.specs.Storable.{IsClass}
 use Rattle.wu_schema.proofs.Parts.{WorkClasses}
 use Rattle.wu_schema.proofs.InsertEffect.{also, no_more}
 use Rattle.wu_schema.specs.Reading.{IsReadFault}
-use Rattle.wu_store.proofs.AskLemmas.{asks_handed, asks_made, asks_none, asks_row, fault_handed, fault_read, handed_on, never_broken, never_err, nothing_handed, opens_handed, opens_made, read_handed, read_told}
+use Rattle.wu_store.proofs.AskLemmas.{asks_made, asks_none, asks_row, fault_handed, fault_read, handed_on, never_broken, never_err, nothing_handed, opens_handed, opens_made, read_handed, read_told, asked_row, reads_handed}
 use Rattle.wu_store.proofs.ChangeLemmas.{sent_number}
-use Rattle.wu_store.proofs.ClassAnswers.{asked_class, class_asked, class_fits, class_found, no_work, row_classed, shown_work}
+use Rattle.wu_store.proofs.ClassAnswers.{class_question, class_asked, class_fits, class_found, no_work, row_classed, shown_work}
 use Rattle.wu_store.proofs.LoadLemmas.{never_unread}
 use Rattle.wu_store.proofs.classes.class_of_workunit.Goals as goal
 
@@ -18,11 +18,13 @@ returns-in_err-key g c =
     let refused : IsReadFault fault = inr c.in_err-key.ensures.refused in
     let beyond : 2 ^ 63 ≤ c.args.number = c.in_err-key.ensures.beyond in
     record {
-      asks = asks_none g.S.Store c.args.conn.now r (never_broken r (read_handed r fault same refused));
       opens = λ low. absurd (omega (arith, low, beyond));
-      fault = fault_handed r fault same (read_told fault refused);
-      found = λ clean. nothing_handed r fault same _;
-      unrefused = λ low. absurd (omega (arith, low, beyond));
+      reads = record {
+        asks = asks_none g.S.Store c.args.conn.now r (never_broken r (read_handed r fault same refused));
+        fault = fault_handed r fault same (read_told fault refused);
+        found = λ clean world stood. nothing_handed r fault same _;
+        unrefused = λ clean world stood can limit. absurd (omega (arith, can.0, beyond));
+      };
     }
 
 pub returns-in_err-row : goal.returns-in_err-row
@@ -33,14 +35,11 @@ returns-in_err-row g c =
     let fault = c.in_err-row.field-0.0 in
     let r = c.from_residual-in_err-row.result in
     let same = c.from_residual-in_err-row.ensures.1 in
-    let it = asked_class WorkClasses (λ version known. known) class_asked class_fits (number n ∷ []) refl (λ _. refl) g.S.Store c.args.conn.now c.ask_row.new.conn _ given (row_classed n)
+    let it = asked_row g.S.Store (class_question WorkClasses (λ version known. known) class_asked class_fits (number n ∷ []) refl (λ _. refl)) c.args.conn.now c.ask_row.new.conn _ given (row_classed n)
     (class_found (state g.S.Store c.args.conn.now) (state g.S.Store c.ask_row.new.conn) n) (Err fault) q.asks q.opens q.shows q.fails q.told in
     record {
-      asks = asks_handed g.S.Store _ _ r fault same it.asks;
       opens = λ low. opens_handed r fault same g.S.Store c.ask_row.new.conn it.opens;
-      fault = fault_handed r fault same it.fault;
-      found = λ clean. nothing_handed r fault same _;
-      unrefused = λ low clean world known s can limit. handed_on r fault same (it.unrefused clean world known s limit);
+      reads = reads_handed g.S.Store _ _ r fault same it.reads (λ other told world. tt) (λ world stood can. tt);
     }
 
 pub returns-in_err-class_at-in-Some : goal.returns-in_err-class_at-in-Some
@@ -54,16 +53,18 @@ returns-in_err-class_at-in-Some g c =
     let same = c.from_residual-in_err-class_at-in-Some.ensures.1 in
     let reads = c.in_err-class_at-in-Some.ensures in
     let refused = read_handed r fault same reads.refused in
-    let it = asked_class WorkClasses (λ version known. known) class_asked class_fits (number n ∷ []) refl (λ _. refl) g.S.Store c.args.conn.now c.ask_row.new.conn _ given (row_classed n)
+    let it = asked_row g.S.Store (class_question WorkClasses (λ version known. known) class_asked class_fits (number n ∷ []) refl (λ _. refl)) c.args.conn.now c.ask_row.new.conn _ given (row_classed n)
     (class_found (state g.S.Store c.args.conn.now) (state g.S.Store c.ask_row.new.conn) n) (Ok row) q.asks q.opens q.shows q.fails q.told in
     record {
-      asks = asks_row g.S.Store _ _ row r refused it.asks;
       opens = λ low. opens_made g.S.Store c.ask_row.new.conn r it.opens;
-      fault = fault_read r refused;
-      found = λ clean. nothing_handed r fault same _;
-      unrefused = λ low clean world known s can limit.
-          let class = shown_work _ c.in-Some.row (sym (it.answers clean world known s) ∙ c.in-Some.is) in
-          handed_on r fault same (never_unread number IsClass _ (Err fault) class.0 reads (subst (λ o. IfSome o IsClass) class.1 can) class.2);
+      reads = record {
+        asks = asks_row g.S.Store _ _ row r refused it.reads.asks;
+        fault = fault_read r refused;
+        found = λ clean world stood. nothing_handed r fault same _;
+        unrefused = λ clean world stood can limit.
+            let class = shown_work _ c.in-Some.row (sym (it.reads.found clean world stood) ∙ c.in-Some.is) in
+            handed_on r fault same (never_unread number IsClass _ (Err fault) class.0 reads (subst (λ o. IfSome o IsClass) class.1 can.1) class.2);
+      };
     }
 
 pub returns-in_ok-class_at-in-Some : goal.returns-in_ok-class_at-in-Some
@@ -74,18 +75,20 @@ returns-in_ok-class_at-in-Some g c =
     let given = also (sent_number n c.params-to_sql.ensures c.in_ok-key.ensures.value c.in_ok-key.ensures.within) no_more in
     let reads = c.in_ok-class_at-in-Some.ensures in
     let x = c.in_ok-class_at-in-Some.field-0 in
-    let it = asked_class WorkClasses (λ version known. known) class_asked class_fits (number n ∷ []) refl (λ _. refl) g.S.Store c.args.conn.now c.ask_row.new.conn _ given (row_classed n)
+    let it = asked_row g.S.Store (class_question WorkClasses (λ version known. known) class_asked class_fits (number n ∷ []) refl (λ _. refl)) c.args.conn.now c.ask_row.new.conn _ given (row_classed n)
     (class_found (state g.S.Store c.args.conn.now) (state g.S.Store c.ask_row.new.conn) n) (Ok row) q.asks q.opens q.shows q.fails q.told in
     record {
-      asks = asks_made g.S.Store _ _ row (Ok (Some x)) (never_err (Some x)) it.asks;
       opens = λ low. it.opens;
-      fault = tt;
-      found = λ clean world known s.
-          let class = shown_work _ c.in-Some.row (sym (it.answers clean world known s) ∙ c.in-Some.is) in
-          let e : number x ≡ number class.0 = sym reads.value.0 ∙ class.2 in
-          let k : x ≡ class.0 = cc in
-          ap (λ m. Some m) k ∙ sym class.1;
-      unrefused = λ low clean world known s can limit. tt;
+      reads = record {
+        asks = asks_made g.S.Store _ _ row (Ok (Some x)) (never_err (Some x)) it.reads.asks;
+        fault = tt;
+        found = λ clean world stood.
+            let class = shown_work _ c.in-Some.row (sym (it.reads.found clean world stood) ∙ c.in-Some.is) in
+            let e : number x ≡ number class.0 = sym reads.value.0 ∙ class.2 in
+            let k : x ≡ class.0 = cc in
+            ap (λ m. Some m) k ∙ sym class.1;
+        unrefused = λ clean world stood can limit. tt;
+      };
     }
 
 pub returns-in-None : goal.returns-in-None
@@ -94,12 +97,14 @@ returns-in-None g c =
     let n = c.args.number in
     let row = c.in_ok-row.row in
     let given = also (sent_number n c.params-to_sql.ensures c.in_ok-key.ensures.value c.in_ok-key.ensures.within) no_more in
-    let it = asked_class WorkClasses (λ version known. known) class_asked class_fits (number n ∷ []) refl (λ _. refl) g.S.Store c.args.conn.now c.ask_row.new.conn _ given (row_classed n)
+    let it = asked_row g.S.Store (class_question WorkClasses (λ version known. known) class_asked class_fits (number n ∷ []) refl (λ _. refl)) c.args.conn.now c.ask_row.new.conn _ given (row_classed n)
     (class_found (state g.S.Store c.args.conn.now) (state g.S.Store c.ask_row.new.conn) n) (Ok row) q.asks q.opens q.shows q.fails q.told in
     record {
-      asks = asks_made g.S.Store _ _ row (Ok None) (never_err None) it.asks;
       opens = λ low. it.opens;
-      fault = tt;
-      found = λ clean world known s. sym (no_work _ (sym (it.answers clean world known s) ∙ c.in-None.is));
-      unrefused = λ low clean world known s can limit. tt;
+      reads = record {
+        asks = asks_made g.S.Store _ _ row (Ok None) (never_err None) it.reads.asks;
+        fault = tt;
+        found = λ clean world stood. sym (no_work _ (sym (it.reads.found clean world stood) ∙ c.in-None.is));
+        unrefused = λ clean world stood can limit. tt;
+      };
     }

@@ -1,7 +1,7 @@
 use Rattle.wu_schema.proofs.Words.{Err, None, NotAProject, Some, inr, refl, subst, sym, ◌∙◌, ◌≡◌}
 use Rattle.std.specs.Prelude.{IfSome}
 use Rattle.wu_core.specs.Formed.{IsWorkunit}
-use Rattle.wu_store.proofs.AskLemmas.{asks_handed, asks_made, asks_none, asks_row, fault_handed, fault_read, handed_on, match_handed, never_broken, never_err, nothing_handed, read_handed, read_told}
+use Rattle.wu_store.proofs.AskLemmas.{asks_made, asks_none, asks_row, fault_read, handed_on, match_handed, never_broken, never_err, nothing_handed, read_handed, read_told, reads_handed}
 use Rattle.wu_store.proofs.QueuedLemmas.{loads_there, number_read, number_told, told_present}
 use Rattle.wu_store.proofs.due.present.Goals as goal
 
@@ -12,11 +12,13 @@ returns-in_err-number g c =
     let same = c.from_residual.ensures.1 in
     let refused = read_handed r fault same c.in_err-number.ensures.refused in
     record {
-      asks = asks_none g.S.Store c.args.conn.now r (never_broken r refused);
-      fault = fault_read r refused;
       formed = nothing_handed r fault same _;
-      found = λ clean world stands known w of. match_handed r fault same _ (read_told fault c.in_err-number.ensures.refused);
-      unrefused = λ clean world stands can limit. handed_on r fault same (number_read c.args.row.now can.1 world can.2 _ c.in_err-number.ensures);
+      reads = record {
+        asks = asks_none g.S.Store c.args.conn.now r (never_broken r refused);
+        fault = fault_read r refused;
+        found = λ clean world stands known w of. match_handed r fault same _ (read_told fault c.in_err-number.ensures.refused);
+        unrefused = λ clean world stands can limit. handed_on r fault same (number_read c.args.row.now can.1 world can.2 _ c.in_err-number.ensures);
+      };
     }
 
 pub returns-in_err-workunit : goal.returns-in_err-workunit
@@ -25,35 +27,35 @@ returns-in_err-workunit g c =
     let r = c.from_residual-in_err-workunit.result in
     let same = c.from_residual-in_err-workunit.ensures.1 in
     record {
-      asks = asks_handed g.S.Store _ _ r fault same c.in_err-workunit.ensures.asks;
-      fault = fault_handed r fault same c.in_err-workunit.ensures.fault;
       formed = nothing_handed r fault same _;
-      found = λ clean world stands known w of. match_handed r fault same _ c.in_err-workunit.ensures.fault;
-      unrefused = λ clean world stands can limit.
-          let number = number_told c.args.row.now can.1 world can.2 c.in_ok-number.number c.in_ok-number.ensures in
-          handed_on r fault same (c.in_err-workunit.ensures.unrefused clean world stands (loads_there c.args.row.now can.1 world can.2 c.in_ok-number.number number can.0 can.3) limit);
+      reads = reads_handed g.S.Store _ _ r fault same c.in_err-workunit.ensures.reads (λ other told world known w of. told)
+          (λ world stands can. loads_there c.args.row.now can.1 world can.2 c.in_ok-number.number (number_told c.args.row.now can.1 world can.2 c.in_ok-number.number c.in_ok-number.ensures) can.0 can.3);
     }
 
 pub returns-in-Some : goal.returns-in-Some
 returns-in-Some g c = record {
-  asks = asks_made g.S.Store _ _ c.in_ok-workunit.field-0 _ (never_err _) c.in_ok-workunit.ensures.asks;
-  fault = tt;
   formed = subst (λ o. IfSome o IsWorkunit) c.in-Some.is c.in_ok-workunit.ensures.formed;
-  found = λ clean world stands known w of.
-      let number = number_told c.args.row.now w world of c.in_ok-number.number c.in_ok-number.ensures in
-      let found : Some c.in-Some.workunit ≡ Some w = told_present c.args.row.now w world of c.in_ok-number.number number (Some c.in-Some.workunit) (sym c.in-Some.is ∙ c.in_ok-workunit.ensures.found clean world stands known) in
-      cc;
-  unrefused = λ clean world stands can limit. tt;
+  reads = record {
+    asks = asks_made g.S.Store _ _ c.in_ok-workunit.field-0 _ (never_err _) c.in_ok-workunit.ensures.reads.asks;
+    fault = tt;
+    found = λ clean world stands known w of.
+        let number = number_told c.args.row.now w world of c.in_ok-number.number c.in_ok-number.ensures in
+        let found : Some c.in-Some.workunit ≡ Some w = told_present c.args.row.now w world of c.in_ok-number.number number (Some c.in-Some.workunit) (sym c.in-Some.is ∙ c.in_ok-workunit.ensures.reads.found clean world stands known) in
+        cc;
+    unrefused = λ clean world stands can limit. tt;
+  };
 }
 
 pub returns-in-None : goal.returns-in-None
 returns-in-None g c = record {
-  asks = asks_row g.S.Store _ _ c.in_ok-workunit.field-0 (Err NotAProject) (inr refl) c.in_ok-workunit.ensures.asks;
-  fault = inr (inr refl);
   formed = tt;
-  found = λ clean world stands known w of. inr (inr refl);
-  unrefused = λ clean world stands can limit.
-      let number = number_told c.args.row.now can.1 world can.2 c.in_ok-number.number c.in_ok-number.ensures in
-      let none : None ≡ Some can.1 = told_present c.args.row.now can.1 world can.2 c.in_ok-number.number number None (sym c.in-None.is ∙ c.in_ok-workunit.ensures.found clean world stands can.0) in
-      absurd cc;
+  reads = record {
+    asks = asks_row g.S.Store _ _ c.in_ok-workunit.field-0 (Err NotAProject) (inr refl) c.in_ok-workunit.ensures.reads.asks;
+    fault = inr (inr refl);
+    found = λ clean world stands known w of. inr (inr refl);
+    unrefused = λ clean world stands can limit.
+        let number = number_told c.args.row.now can.1 world can.2 c.in_ok-number.number c.in_ok-number.ensures in
+        let none : None ≡ Some can.1 = told_present c.args.row.now can.1 world can.2 c.in_ok-number.number number None (sym c.in-None.is ∙ c.in_ok-workunit.ensures.reads.found clean world stands can.0) in
+        absurd cc;
+  };
 }

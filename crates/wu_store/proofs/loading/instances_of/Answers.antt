@@ -3,7 +3,7 @@ use Rattle.wu_schema.proofs.Parts.{Instances}
 use Rattle.wu_schema.proofs.InsertEffect.{also, no_more}
 use Rattle.wu_store.specs.Answers.{instance_rows_of}
 use Rattle.wu_schema.specs.Reading.{IsReadFault}
-use Rattle.wu_store.proofs.AskLemmas.{asked_all, asks_handed, asks_none, asks_row, fault_handed, fault_read, handed_on, match_handed, never_broken, nothing_handed, question, read_handed, read_told}
+use Rattle.wu_store.proofs.AskLemmas.{asked_all, asks_none, asks_row, fault_handed, fault_read, match_handed, never_broken, nothing_handed, question, read_handed, read_told, reads_handed}
 use Rattle.wu_store.proofs.ChangeLemmas.{sent_number}
 use Rattle.wu_store.proofs.SelectTexts.{instances_asked, instances_fits}
 use Rattle.wu_store.proofs.InstanceAnswers as answers
@@ -18,11 +18,13 @@ returns-in_err-key g c =
     let refused : IsReadFault fault = inr c.in_err-key.ensures.refused in
     let beyond : 2 ^ 63 ≤ c.args.workunit = c.in_err-key.ensures.beyond in
     record {
-      asks = asks_none g.S.Store c.args.conn.now r (never_broken r (read_handed r fault same refused));
-      fault = fault_handed r fault same (read_told fault refused);
       stored = nothing_handed r fault same _;
-      found = λ clean world stands. match_handed r fault same _ (read_told fault refused);
-      unrefused = λ clean world stands has limit. absurd (omega (arith, has.0, beyond));
+      reads = record {
+        asks = asks_none g.S.Store c.args.conn.now r (never_broken r (read_handed r fault same refused));
+        fault = fault_handed r fault same (read_told fault refused);
+        found = λ clean world stands. match_handed r fault same _ (read_told fault refused);
+        unrefused = λ clean world stands has limit. absurd (omega (arith, has.0, beyond));
+      };
     }
 
 pub returns-in_err-rows : goal.returns-in_err-rows
@@ -34,11 +36,8 @@ returns-in_err-rows g c =
     let it = asked_all g.S.Store (question Instances (λ _. tt) instances_asked instances_fits (number c.args.workunit ∷ []) refl (λ _. refl)) c.args.conn.now c.query.new.conn _ (also (sent_number c.args.workunit c.params-to_sql.ensures c.in_ok-key.ensures.value c.in_ok-key.ensures.within) no_more) (λ rows world. rows ≡ instance_rows_of c.args.workunit world)
     (λ rows h world s. answers.instances_found (state g.S.Store c.args.conn.now) (state g.S.Store c.query.new.conn) world s c.args.workunit rows h) (Err fault) q.asks q.opens q.shows q.fails q.told in
     record {
-      asks = asks_handed g.S.Store _ _ r fault same it.asks;
-      fault = fault_handed r fault same it.fault;
       stored = nothing_handed r fault same _;
-      found = λ clean world stands. match_handed r fault same _ it.fault;
-      unrefused = λ clean world stands has limit. handed_on r fault same (it.unrefused clean world stands tt limit);
+      reads = reads_handed g.S.Store _ _ r fault same it.reads (λ other told world. told) (λ world stands has. tt);
     }
 
 pub returns : goal.returns
@@ -49,9 +48,11 @@ returns g c =
     let it = asked_all g.S.Store (question Instances (λ _. tt) instances_asked instances_fits (number c.args.workunit ∷ []) refl (λ _. refl)) c.args.conn.now c.query.new.conn _ (also (sent_number c.args.workunit c.params-to_sql.ensures c.in_ok-key.ensures.value c.in_ok-key.ensures.within) no_more) (λ rows world. rows ≡ instance_rows_of c.args.workunit world)
     (λ rows h world s. answers.instances_found (state g.S.Store c.args.conn.now) (state g.S.Store c.query.new.conn) world s c.args.workunit rows h) (Ok c.in_ok-rows.rows) q.asks q.opens q.shows q.fails q.told in
     record {
-      asks = asks_row g.S.Store _ _ c.in_ok-rows.rows r reads.refused it.asks;
-      fault = fault_read r reads.refused;
       stored = instances_stored _ r reads;
-      found = λ clean world stands. instances_found c.args.workunit world _ (c.deref.ensures.value ∙ it.answers clean world stands) r reads;
-      unrefused = λ clean world stands has limit. instances_read c.args.workunit world _ (c.deref.ensures.value ∙ it.answers clean world stands) r reads has.1;
+      reads = record {
+        asks = asks_row g.S.Store _ _ c.in_ok-rows.rows r reads.refused it.reads.asks;
+        fault = fault_read r reads.refused;
+        found = λ clean world stands. instances_found c.args.workunit world _ (c.deref.ensures.value ∙ it.reads.found clean world stands) r reads;
+        unrefused = λ clean world stands has limit. instances_read c.args.workunit world _ (c.deref.ensures.value ∙ it.reads.found clean world stands) r reads has.1;
+      };
     }

@@ -6,8 +6,8 @@ use Rattle.wu_schema.specs.Reading.{IsReadFault}
 use Rattle.wu_store.proofs.ChangeLemmas.{sent_number}
 use Rattle.wu_store.proofs.SelectTexts.{above_asked, above_fits}
 use Rattle.wu_store.proofs.OrderAnswers.{above_found}
-use Rattle.wu_store.proofs.AskLemmas.{asked_row, asks_handed, asks_none, asks_then, fault_handed, handed_on, match_handed, never_broken, nothing_handed, opens_handed, opens_then, question, read_handed, read_told}
-use Rattle.wu_store.proofs.LoadLemmas.{early_found, early_unrefused}
+use Rattle.wu_store.proofs.AskLemmas.{asked_row, asks_none, fault_handed, match_handed, never_broken, nothing_handed, opens_handed, opens_then, question, read_handed, read_told, reads_handed, reads_can}
+use Rattle.wu_store.proofs.LoadLemmas.{early_then}
 use Rattle.wu_store.proofs.loading.load_above.Goals as goal
 
 pub returns-in_err-key : goal.returns-in_err-key
@@ -18,12 +18,14 @@ returns-in_err-key g c =
     let refused : IsReadFault fault = inr c.in_err-key.ensures.refused in
     let beyond : 2 ^ 63 ≤ c.args.number = c.in_err-key.ensures.beyond in
     record {
-      asks = asks_none g.S.Store c.args.conn.now r (never_broken r (read_handed r fault same refused));
       opens = λ low. absurd (omega (arith, low, beyond));
-      fault = fault_handed r fault same (read_told fault refused);
       formed = nothing_handed r fault same _;
-      found = λ clean world stands early. match_handed r fault same _ (read_told fault refused);
-      unrefused = λ clean world stands can limit. absurd (omega (arith, can.1, beyond));
+      reads = record {
+        asks = asks_none g.S.Store c.args.conn.now r (never_broken r (read_handed r fault same refused));
+        fault = fault_handed r fault same (read_told fault refused);
+        found = λ clean world stands early. match_handed r fault same _ (read_told fault refused);
+        unrefused = λ clean world stands can limit. absurd (omega (arith, can.1, beyond));
+      };
     }
 
 pub returns-in_err-row : goal.returns-in_err-row
@@ -35,12 +37,9 @@ returns-in_err-row g c =
     let it = asked_row g.S.Store (question Workunits (λ _. tt) above_asked above_fits (number c.args.number ∷ []) refl (λ _. refl)) c.args.conn.now c.ask_row.new.conn _ (also (sent_number c.args.number c.params-to_sql.ensures c.in_ok-key.ensures.value c.in_ok-key.ensures.within) no_more) (row_above c.args.number)
     (λ rows h world s. above_found (state g.S.Store c.args.conn.now) (state g.S.Store c.ask_row.new.conn) world s c.args.number rows h) (Err fault) q.asks q.opens q.shows q.fails q.told in
     record {
-      asks = asks_handed g.S.Store _ _ r fault same it.asks;
       opens = λ low. opens_handed r fault same g.S.Store c.ask_row.new.conn it.opens;
-      fault = fault_handed r fault same it.fault;
       formed = nothing_handed r fault same _;
-      found = λ clean world stands early. match_handed r fault same _ it.fault;
-      unrefused = λ clean world stands can limit. handed_on r fault same (it.unrefused clean world stands tt limit);
+      reads = reads_handed g.S.Store _ _ r fault same it.reads (λ other told world early. told) (λ world stands can. tt);
     }
 
 pub returns : goal.returns
@@ -51,11 +50,7 @@ returns g c =
     let it = asked_row g.S.Store (question Workunits (λ _. tt) above_asked above_fits (number c.args.number ∷ []) refl (λ _. refl)) c.args.conn.now c.ask_row.new.conn _ (also (sent_number c.args.number c.params-to_sql.ensures c.in_ok-key.ensures.value c.in_ok-key.ensures.within) no_more) (row_above c.args.number)
     (λ rows h world s. above_found (state g.S.Store c.args.conn.now) (state g.S.Store c.ask_row.new.conn) world s c.args.number rows h) (Ok row) q.asks q.opens q.shows q.fails q.told in
     record {
-      asks = asks_then g.S.Store _ _ _ row it.asks c.loaded.result c.loaded.ensures.asks;
-      opens = λ low. opens_then g.S.Store c.ask_row.new.conn c.loaded.new.conn it.opens c.loaded.result c.loaded.ensures.asks;
-      fault = c.loaded.ensures.fault;
+      opens = λ low. opens_then g.S.Store c.ask_row.new.conn c.loaded.new.conn it.opens c.loaded.result c.loaded.ensures.reads.asks;
       formed = c.loaded.ensures.formed;
-      found = early_found g.S.Store _ _ _ test row c.loaded.result it.asks it.answers c.loaded.ensures.asks c.loaded.ensures.found;
-      unrefused = λ clean world stands can limit.
-          early_unrefused g.S.Store _ _ _ test row c.loaded.result it.asks it.answers c.loaded.ensures.asks c.loaded.ensures.unrefused clean world stands can.2 limit;
+      reads = reads_can (λ world stands can. can.2) (early_then g.S.Store _ _ _ test row c.loaded.result it.reads c.loaded.ensures.reads);
     }

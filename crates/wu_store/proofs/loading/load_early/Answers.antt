@@ -1,6 +1,6 @@
 use Rattle.wu_schema.proofs.Words.{Workunit, ◌==◌}
-use Rattle.wu_store.proofs.AskLemmas.{asks_handed, asks_then, fault_handed, handed_on, match_handed, nothing_handed, opens_handed, opens_then}
-use Rattle.wu_store.proofs.LoadLemmas.{early_found, early_unrefused}
+use Rattle.wu_store.proofs.AskLemmas.{nothing_handed, opens_handed, opens_then, reads_handed, reads_can}
+use Rattle.wu_store.proofs.LoadLemmas.{early_then}
 use Rattle.wu_store.proofs.loading.load_early.Goals as goal
 
 pub returns-in_err-row : goal.returns-in_err-row
@@ -10,12 +10,9 @@ returns-in_err-row g c =
     let r = c.from_residual.result in
     let same = c.from_residual.ensures.1 in
     record {
-      asks = asks_handed g.S.Store _ _ r fault same it.asks;
       opens = λ low. opens_handed r fault same g.S.Store c.numbered_row.new.conn (it.opens low);
-      fault = fault_handed r fault same it.fault;
       formed = nothing_handed r fault same _;
-      found = λ clean world stands known. match_handed r fault same _ it.fault;
-      unrefused = λ clean world stands can limit. handed_on r fault same (it.unrefused clean world stands can.1 limit);
+      reads = reads_handed g.S.Store _ _ r fault same it.reads (λ other told world known. told) (λ world stands can. can.1);
     }
 
 pub returns : goal.returns
@@ -24,11 +21,7 @@ returns g c =
     let row = c.in_ok-row.row in
     let test = λ (w : Workunit). w.number == c.args.number in
     record {
-      asks = asks_then g.S.Store _ _ _ row it.asks c.loaded.result c.loaded.ensures.asks;
-      opens = λ low. opens_then g.S.Store c.numbered_row.new.conn c.loaded.new.conn (it.opens low) c.loaded.result c.loaded.ensures.asks;
-      fault = c.loaded.ensures.fault;
+      opens = λ low. opens_then g.S.Store c.numbered_row.new.conn c.loaded.new.conn (it.opens low) c.loaded.result c.loaded.ensures.reads.asks;
       formed = c.loaded.ensures.formed;
-      found = early_found g.S.Store _ _ _ test row c.loaded.result it.asks it.answers c.loaded.ensures.asks c.loaded.ensures.found;
-      unrefused = λ clean world stands can limit.
-          early_unrefused g.S.Store _ _ _ test row c.loaded.result it.asks it.answers c.loaded.ensures.asks c.loaded.ensures.unrefused clean world stands can.2 limit;
+      reads = reads_can (λ world stands can. can.2) (early_then g.S.Store _ _ _ test row c.loaded.result it.reads c.loaded.ensures.reads);
     }

@@ -4,8 +4,8 @@ use Rattle.wu_schema.proofs.InsertEffect.{also, no_more}
 use Rattle.wu_store.specs.Answers.{row_named}
 use Rattle.wu_store.proofs.SelectTexts.{named_asked, named_fits}
 use Rattle.wu_store.proofs.ReadAnswers.{named_found}
-use Rattle.wu_store.proofs.AskLemmas.{asked_row, asks_handed, asks_then, fault_handed, handed_on, match_handed, nothing_handed, opens_handed, opens_then, question}
-use Rattle.wu_store.proofs.LoadLemmas.{load_found, load_unrefused}
+use Rattle.wu_store.proofs.AskLemmas.{asked_row, nothing_handed, opens_handed, opens_then, question, reads_handed}
+use Rattle.wu_store.proofs.LoadLemmas.{load_then}
 use Rattle.wu_store.proofs.loading.load_named.Goals as goal
 
 pub returns-in_err-row : goal.returns-in_err-row
@@ -17,12 +17,9 @@ returns-in_err-row g c =
     let it = asked_row g.S.Store (question Workunits (λ _. tt) named_asked named_fits (Text c.args.name.now ∷ []) refl (λ _. refl)) c.args.conn.now c.ask_row.new.conn _ (also (ap bound_value c.params-to_sql.ensures ∙ ap (λ t. Text t) c.as_str.ensures) no_more) (row_named c.args.name.now)
     (λ rows h world s. named_found (state g.S.Store c.args.conn.now) (state g.S.Store c.ask_row.new.conn) world s c.args.name.now rows h) (Err fault) q.asks q.opens q.shows q.fails q.told in
     record {
-      asks = asks_handed g.S.Store _ _ r fault same it.asks;
       opens = opens_handed r fault same g.S.Store c.ask_row.new.conn it.opens;
-      fault = fault_handed r fault same it.fault;
       formed = nothing_handed r fault same _;
-      found = λ clean world stands known. match_handed r fault same _ it.fault;
-      unrefused = λ clean world stands can limit. handed_on r fault same (it.unrefused clean world stands tt limit);
+      reads = reads_handed g.S.Store _ _ r fault same it.reads (λ other told world known. told) (λ world stands can. tt);
     }
 
 pub returns : goal.returns
@@ -33,11 +30,7 @@ returns g c =
     let it = asked_row g.S.Store (question Workunits (λ _. tt) named_asked named_fits (Text c.args.name.now ∷ []) refl (λ _. refl)) c.args.conn.now c.ask_row.new.conn _ (also (ap bound_value c.params-to_sql.ensures ∙ ap (λ t. Text t) c.as_str.ensures) no_more) (row_named c.args.name.now)
     (λ rows h world s. named_found (state g.S.Store c.args.conn.now) (state g.S.Store c.ask_row.new.conn) world s c.args.name.now rows h) (Ok row) q.asks q.opens q.shows q.fails q.told in
     record {
-      asks = asks_then g.S.Store _ _ _ row it.asks c.whole.result c.whole.ensures.asks;
-      opens = opens_then g.S.Store c.ask_row.new.conn c.whole.new.conn it.opens c.whole.result c.whole.ensures.asks;
-      fault = c.whole.ensures.fault;
+      opens = opens_then g.S.Store c.ask_row.new.conn c.whole.new.conn it.opens c.whole.result c.whole.ensures.reads.asks;
       formed = c.whole.ensures.formed;
-      found = load_found g.S.Store _ _ _ test row c.whole.result it.asks it.answers c.whole.ensures.asks c.whole.ensures.found;
-      unrefused = λ clean world stands can limit.
-          load_unrefused g.S.Store _ _ _ test row c.whole.result it.asks it.answers c.whole.ensures.asks c.whole.ensures.unrefused clean world stands can limit;
+      reads = load_then g.S.Store _ _ _ test row c.whole.result it.reads c.whole.ensures.reads;
     }

@@ -1,7 +1,7 @@
 use Rattle.wu_schema.proofs.Words.{Err, Ok, [], refl, state}
 use Rattle.wu_schema.proofs.Parts.{Archive}
 use Rattle.wu_store.specs.Answers.{last_archived}
-use Rattle.wu_store.proofs.AskLemmas.{asked_row, asks_handed, asks_row, fault_handed, fault_read, handed_on, match_handed, nothing_handed, opens_handed, opens_made}
+use Rattle.wu_store.proofs.AskLemmas.{asked_row, asks_row, fault_read, nothing_handed, opens_handed, opens_made, reads_handed}
 use Rattle.wu_store.proofs.LastLemmas.{archived_text, archived_fits, archived_found, last_question}
 use Rattle.wu_store.proofs.LoadLemmas.{place_known, place_read}
 use Rattle.wu_store.proofs.loading.next_archived_place.Goals as goal
@@ -16,11 +16,8 @@ returns-in_err-last g c =
     (λ rows h world s. archived_found (state g.S.Store c.args.conn.now) (state g.S.Store c.ask_row.new.conn) world s rows h) (Err fault) q.asks q.opens q.shows q.fails q.told in
     record {
       within = nothing_handed r fault same _;
-      asks = asks_handed g.S.Store _ _ r fault same it.asks;
       opens = opens_handed r fault same g.S.Store c.ask_row.new.conn it.opens;
-      fault = fault_handed r fault same it.fault;
-      place = λ clean world stands. match_handed r fault same _ it.fault;
-      unrefused = λ clean world stands any limit. handed_on r fault same (it.unrefused clean world stands tt limit);
+      reads = reads_handed g.S.Store _ _ r fault same it.reads (λ other told world. told) (λ world stands any. tt);
     }
 
 pub returns : goal.returns
@@ -33,9 +30,11 @@ returns g c =
     (λ rows h world s. archived_found (state g.S.Store c.args.conn.now) (state g.S.Store c.ask_row.new.conn) world s rows h) (Ok last) q.asks q.opens q.shows q.fails q.told in
     record {
       within = c.place_behind.ensures.within;
-      asks = asks_row g.S.Store _ _ last r reads.refused it.asks;
       opens = opens_made g.S.Store c.ask_row.new.conn r it.opens;
-      fault = fault_read r reads.refused;
-      place = λ clean world stands. place_known world.archived last r (it.answers clean world stands) reads;
-      unrefused = λ clean world stands any limit. place_read world.archived last r (it.answers clean world stands) reads;
+      reads = record {
+        asks = asks_row g.S.Store _ _ last r reads.refused it.reads.asks;
+        fault = fault_read r reads.refused;
+        found = λ clean world stands. place_known world.archived last r (it.reads.found clean world stands) reads;
+        unrefused = λ clean world stands any limit. place_read world.archived last r (it.reads.found clean world stands) reads;
+      };
     }

@@ -1,7 +1,7 @@
 use Rattle.wu_schema.proofs.Words.{Err, Ok, Some, [], inr, refl, state, sym, ◌∙◌, ◌≡◌}
 use Rattle.wu_schema.proofs.Parts.{Project}
 use Rattle.wu_core.specs.declared.fault.Fault.TheVariants.{NotAProject}
-use Rattle.wu_store.proofs.AskLemmas.{asked_row, asks_handed, asks_row, fault_handed, fault_read, handed_on, match_handed, nothing_handed, opens_handed, opens_made, question}
+use Rattle.wu_store.proofs.AskLemmas.{asked_row, asks_row, fault_read, nothing_handed, opens_handed, opens_made, question, reads_handed}
 use Rattle.wu_store.specs.Answers.{next_row}
 use Rattle.wu_store.proofs.ReadAnswers.{next_found}
 use Rattle.wu_store.proofs.SelectTexts.{next_asked, next_fits}
@@ -19,11 +19,8 @@ returns-in_err-row g c =
     (λ found h world s. next_found (state g.S.Store c.args.conn.now) (state g.S.Store c.ask_row.new.conn) world s found h) (Err fault) q.asks q.opens q.shows q.fails q.told in
     record {
       within = nothing_handed r fault same _;
-      asks = asks_handed g.S.Store _ _ r fault same it.asks;
       opens = opens_handed r fault same g.S.Store c.ask_row.new.conn it.opens;
-      fault = fault_handed r fault same it.fault;
-      next = λ clean world stands. match_handed r fault same _ it.fault;
-      unrefused = λ clean world stands has limit. handed_on r fault same (it.unrefused clean world stands tt limit);
+      reads = reads_handed g.S.Store _ _ r fault same it.reads (λ other told world. told) (λ world stands has. tt);
     }
 
 pub returns-in-Some : goal.returns-in-Some
@@ -36,15 +33,17 @@ returns-in-Some g c =
     let reads = c.next_number_from.ensures.reads in
     record {
       within = next_within c.in-Some.row r reads;
-      asks = asks_row g.S.Store _ _ row r reads.refused asked.asks;
       opens = opens_made g.S.Store c.ask_row.new.conn r asked.opens;
-      fault = fault_read r reads.refused;
-      next = λ clean world stands.
-          let row_is : c.in-Some.row ≡ next_row world = same_some (sym c.in-Some.is ∙ asked.answers clean world stands) in
-          next_is world.next_number c.in-Some.row r row_is reads;
-      unrefused = λ clean world stands has limit.
-          let row_is : c.in-Some.row ≡ next_row world = same_some (sym c.in-Some.is ∙ asked.answers clean world stands) in
-          never_unread _ _ c.in-Some.row r world.next_number reads has row_is;
+      reads = record {
+        asks = asks_row g.S.Store _ _ row r reads.refused asked.reads.asks;
+        fault = fault_read r reads.refused;
+        found = λ clean world stands.
+            let row_is : c.in-Some.row ≡ next_row world = same_some (sym c.in-Some.is ∙ asked.reads.found clean world stands) in
+            next_is world.next_number c.in-Some.row r row_is reads;
+        unrefused = λ clean world stands has limit.
+            let row_is : c.in-Some.row ≡ next_row world = same_some (sym c.in-Some.is ∙ asked.reads.found clean world stands) in
+            never_unread _ _ c.in-Some.row r world.next_number reads has row_is;
+      };
     }
 
 pub returns-in-None : goal.returns-in-None
@@ -55,9 +54,11 @@ returns-in-None g c =
     (λ found h world s. next_found (state g.S.Store c.args.conn.now) (state g.S.Store c.ask_row.new.conn) world s found h) (Ok row) q.asks q.opens q.shows q.fails q.told in
     record {
       within = tt;
-      asks = asks_row g.S.Store _ _ row (Err NotAProject) (inr refl) asked.asks;
       opens = λ clean. inr (asked.opens clean);
-      fault = inr (inr refl);
-      next = λ clean world stands. inr (inr refl);
-      unrefused = λ clean world stands has limit. absurd (let no = sym c.in-None.is ∙ asked.answers clean world stands in cc);
+      reads = record {
+        asks = asks_row g.S.Store _ _ row (Err NotAProject) (inr refl) asked.reads.asks;
+        fault = inr (inr refl);
+        found = λ clean world stands. inr (inr refl);
+        unrefused = λ clean world stands has limit. absurd (let no = sym c.in-None.is ∙ asked.reads.found clean world stands in cc);
+      };
     }

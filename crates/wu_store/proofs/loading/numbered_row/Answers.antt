@@ -17,11 +17,13 @@ returns-in_err-key g c =
     let refused : IsReadFault fault = inr c.in_err-key.ensures.refused in
     let beyond : 2 ^ 63 ≤ c.args.number = c.in_err-key.ensures.beyond in
     record {
-      asks = asks_none g.S.Store c.args.conn.now r (never_broken r (read_handed r fault same refused));
       opens = λ low. absurd (omega (arith, low, beyond));
-      fault = fault_handed r fault same (read_told fault refused);
-      answers = λ clean. nothing_handed r fault same _;
-      unrefused = λ clean world stands low limit. absurd (omega (arith, low, beyond));
+      reads = record {
+        asks = asks_none g.S.Store c.args.conn.now r (never_broken r (read_handed r fault same refused));
+        fault = fault_handed r fault same (read_told fault refused);
+        found = λ clean world stands. nothing_handed r fault same _;
+        unrefused = λ clean world stands low limit. absurd (omega (arith, low, beyond));
+      };
     }
 
 pub returns : goal.returns
@@ -30,9 +32,11 @@ returns g c =
     let it = asked_row g.S.Store (question Workunits (λ _. tt) numbered_asked numbered_fits (number c.args.number ∷ []) refl (λ _. refl)) c.args.conn.now c.ask_row.new.conn _ (also (sent_number c.args.number c.params-to_sql.ensures c.in_ok-key.ensures.value c.in_ok-key.ensures.within) no_more) (row_numbered c.args.number)
     (λ rows h world s. numbered_found (state g.S.Store c.args.conn.now) (state g.S.Store c.ask_row.new.conn) world s c.args.number rows h) c.ask_row.result q.asks q.opens q.shows q.fails q.told in
     record {
-      asks = it.asks;
       opens = λ low. it.opens;
-      fault = it.fault;
-      answers = it.answers;
-      unrefused = λ clean world stands low limit. it.unrefused clean world stands tt limit;
+      reads = record {
+        asks = it.reads.asks;
+        fault = it.reads.fault;
+        found = it.reads.found;
+        unrefused = λ clean world stands low limit. it.reads.unrefused clean world stands tt limit;
+      };
     }

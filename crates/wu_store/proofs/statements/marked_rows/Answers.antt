@@ -1,7 +1,7 @@
 use Rattle.wu_schema.proofs.Words.{[], ap, arith, bound_value, number, pos, true, ◌∙◌, ◌∷◌, ◌≡◌}
 use Rattle.wu_schema.proofs.InsertEffect.{also, no_more}
 use Rattle.wu_store.proofs.ChangeLemmas.{sent_number}
-use Rattle.wu_store.proofs.QueueAnswers.{flags_given, given_of, moments_given, pass_asks}
+use Rattle.wu_store.proofs.QueueAnswers.{flags_given, moments_given, pass_asks}
 use Rattle.wu_store.proofs.QueueLemmas.{bound_flag}
 use Rattle.wu_store.proofs.statements.marked_rows.Goals as goal
 

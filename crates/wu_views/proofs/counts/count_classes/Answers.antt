@@ -1,8 +1,7 @@
 use Rattle.wu_schema.proofs.Words.{None, [], refl, state}
 use Rattle.wu_schema.proofs.Parts.{HostClasses}
-use Rattle.wu_schema.proofs.ReadLemmas.{if_ok}
 use Rattle.wu_views.specs.Counting.{class_count}
-use Rattle.wu_views.proofs.ClassQuestions.{asked_class_count, class_count_question}
+use Rattle.wu_views.proofs.CountQuestions.{asked_count, class_count_question}
 use Rattle.wu_views.proofs.CountedAnswers.{classes_counted, classes_fit, counting}
 use Rattle.wu_views.specs.declared.texts.TheConstants.{COUNT_CLASSES}
 use Rattle.wu_views.proofs.counts.count_classes.Goals as goal
@@ -13,12 +12,6 @@ returns g c =
     let new = c.ask_count.new.conn in
     let q = c.ask_count.ensures in
     let r = c.ask_count.result in
-    let it = asked_class_count g.S.Store (class_count_question HostClasses (λ version known. known) (counting COUNT_CLASSES.now) None classes_fit [] refl (λ _. refl)) old new [] refl class_count
-    (λ rows h world known s. classes_counted (state g.S.Store old) (state g.S.Store new) world s rows known h) r q.asks q.opens q.shows q.fails q.told in
-    record {
-      asks = it.asks;
-      opens = it.opens;
-      fault = it.fault;
-      found = λ clean world known s. if_ok r _ _ (λ found h. h world known s) (it.answers clean);
-      unrefused = λ clean world known s any limit. it.unrefused clean world known s limit;
-    }
+    let it = asked_count g.S.Store (class_count_question HostClasses (λ version known. known) (counting COUNT_CLASSES.now) None classes_fit [] refl (λ _. refl)) old new [] refl class_count
+    (λ rows h world stood. classes_counted (state g.S.Store old) (state g.S.Store new) world stood.1 rows stood.0 h) r q.asks q.opens q.shows q.fails q.told in
+    record { opens = it.opens; reads = it.reads }
