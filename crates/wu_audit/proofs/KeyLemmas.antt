@@ -1,28 +1,13 @@
 -- Rows and their keys.
-use Rattle.std.proofs.Common.{◌≡◌, ◌∙◌, sym, ap, ℕ, ◌+◌, ◌<◌, Bool, true, false, List, [], ◌∷◌, ◌++◌, map, length, get_or, subst, below_more, arith, refl, length-append, Option, Some, None, Result, Ok, Err, IfOk, eqb, ◌≢◌, ◌&&◌, bytes_eq}
+use Rattle.std.proofs.Common.{◌≡◌, ◌∙◌, sym, ap, ℕ, ◌<◌, Bool, true, false, List, map, length, get_or, subst, arith, refl, Option, Some, None, Result, Ok, Err, IfOk, eqb, ◌≢◌, ◌&&◌, bytes_eq}
 use Rattle.std.specs.Bool.{Decides}
 use Rattle.std.proofs.lemmas.Bool.{false≢true}
 use Rattle.std.proofs.lemmas.Bool.Decides.{Decides-eqb}
 use Rattle.std.proofs.lemmas.Slice.Eq.{bytes_eq-Decides}
-use Rattle.std.proofs.lemmas.List.{get_or_append_left, get_or-map, get_or_push, length-map}
+use Rattle.std.proofs.lemmas.List.{get_or-map, length-map}
 use Rattle.wu_audit.proofs.PlaceLemmas.{element_of}
 use Rattle.wu_audit.specs.Against.{FirstPairAgainst}
-use Rattle.wu_audit.specs.Keys.{AreKeysBelow, AreKeysOf}
-
--- of no rows there are no keys
-pub keys_none : {X K : Type 0} (IsOf : X → K → Type 0) (rows : List X) (keys : List K) → keys ≡ [] → AreKeysBelow IsOf rows keys 0
-keys_none IsOf rows keys none = record { length = ap length none; each = λ k d e lt. absurd (omega (arith, lt)) }
-
--- the key of one more row
-pub keys_more : {X K : Type 0} (IsOf : X → K → Type 0) (rows : List X) (keys more : List K) (p : ℕ) (key : K)
-    → ((d : X) → IsOf (get_or rows p d) key) → more ≡ keys ++ key ∷ [] → AreKeysBelow IsOf rows keys p → AreKeysBelow IsOf rows more (p + 1)
-keys_more {X} {K} IsOf rows keys more p key here is below = subst (λ all. AreKeysBelow IsOf rows all (p + 1)) (sym is) (record {
-  length = omega (arith, length-append keys (key ∷ []), below.length);
-  each = λ k d e lt. below_more (λ k. (d : X) (e : K) → IsOf (get_or rows k d) (get_or (keys ++ key ∷ []) k e)) p
-      (λ k lt d e. subst (λ y. IsOf (get_or rows k d) y) (sym (get_or_append_left keys (key ∷ []) e k (omega (arith, lt, below.length)))) (below.each k d e lt))
-      (λ d e. subst (λ y. IsOf (get_or rows p d) y) (sym (get_or_push keys key e p below.length)) (here d))
-      k lt d e;
-})
+use Rattle.wu_audit.specs.Keys.{AreKeysOf}
 
 -- keys that a function of the row gives
 pub keys_from_map : {X K : Type 0} (f : X → K) (rows : List X) (keys : List K) → keys ≡ map f rows → AreKeysOf (λ x key. key ≡ f x) rows keys

@@ -1,7 +1,6 @@
 mod AnyOrderLemmas
 mod CountLemmas
 mod ExampleLemmas
-mod HeldLemmas
 mod ImportKeyLemmas
 pub mod KeyLemmas
 mod MovedLemmas

@@ -1,5 +1,10 @@
 -- The first place of a list at which something does not hold.
-use Rattle.std.specs.Prelude.{ℕ, ◌<◌, List, length, slice_index_or, All, AllPairs, Option, Some, None}
+use Rattle.std.specs.Prelude.{ℕ, ◌<◌, List, length, slice_index_or, All, AllPairs, Option, Some, None, Bool, true, false}
+use Rattle.std.specs.Borrow.{Bor}
+use Rattle.std.specs.Fn.{FnReturnsAt}
+use Rattle.std.specs.List.{AllWithin, HoldsAt}
+use Rattle.std.specs.Option.{MatchOption}
+use denote.Param.Members.{Shared}
 
 -- The property holds at each place below this one, and not at this one.
 pub record IsFirstAgainst {X : Type 0} (P : X → Type 0) (xs : List X) (k : ℕ) : Type 0 where
@@ -23,3 +28,8 @@ pub record IsFirstPairAgainst {X : Type 0} (R : X → X → Type 0) (xs : List X
 abbrev pub FirstPairAgainst : {X : Type 0} → (X → X → Type 0) → List X → Option ℕ → Type 0
 FirstPairAgainst R xs None = AllPairs R xs
 FirstPairAgainst R xs (Some k) = IsFirstPairAgainst R xs k
+
+-- `None` if the test is true of each; else the first place at which it is false.
+abbrev pub FirstFalse : {F X : Type 0} → Shared F (Bor X × Unit {0}) Bool → F → List X → Option ℕ → Type 0
+FirstFalse test f xs found = MatchOption found (AllWithin (λ x. FnReturnsAt test f x true) xs 0 (length xs))
+    (λ k. (k < length xs) × HoldsAt (λ x. FnReturnsAt test f x false) xs k × AllWithin (λ x. FnReturnsAt test f x true) xs 0 k)

@@ -9,6 +9,7 @@ ghost use Rattle.wu_machine.specs.Sound.{HasPossibleMask, IsGiven};
 ghost use Rattle.wu_audit.specs.Against.{FirstAgainst};
 ghost use Rattle.wu_audit.specs.Rows.{IsRightGrant, IsRightImport};
 
+use crate::against::first_against;
 use crate::loaded::{Imported, Loaded};
 use crate::rows::{
     has_possible_mask, is_classed, is_given, is_right_grant, is_right_import, is_storable_archived,
@@ -22,12 +23,7 @@ pub fn first_unformed(workunits: &[Workunit]) -> Option<usize>
     // are.
     ensures { FirstAgainst IsWorkunit workunits.now result }
 {
-    for (place, workunit) in workunits.iter().enumerate() {
-        if !is_formed_workunit(workunit) {
-            return Some(place);
-        }
-    }
-    None
+    first_against(workunits, is_formed_workunit)
 }
 
 /// Returns the place of the first workunit that cannot be stored, or `None` if there is none.
@@ -36,12 +32,7 @@ pub fn first_unstorable(workunits: &[Workunit]) -> Option<usize>
     // can.
     ensures { FirstAgainst IsStorable workunits.now result }
 {
-    for (place, workunit) in workunits.iter().enumerate() {
-        if !is_storable_workunit(workunit) {
-            return Some(place);
-        }
-    }
-    None
+    first_against(workunits, is_storable_workunit)
 }
 
 /// Makes known that each grant is to a host with a name.
@@ -60,12 +51,7 @@ pub fn first_unstorable_archived(archived: &[Archived]) -> Option<usize>
     // all can.
     ensures { FirstAgainst IsStoredArchived archived.now result }
 {
-    for (place, row) in archived.iter().enumerate() {
-        if !is_storable_archived(row) {
-            return Some(place);
-        }
-    }
-    None
+    first_against(archived, is_storable_archived)
 }
 
 /// Returns the place of the first import with a verdict that no such file has, or `None` if there is none.
@@ -74,12 +60,7 @@ pub fn first_wrong_import(imports: &[Imported]) -> Option<usize>
     // means that none has one.
     ensures { FirstAgainst IsRightImport imports.now result }
 {
-    for (place, import) in imports.iter().enumerate() {
-        if !is_right_import(import) {
-            return Some(place);
-        }
-    }
-    None
+    first_against(imports, is_right_import)
 }
 
 /// Returns the place of the first workunit whose states and verdicts do not agree, or `None` if there is none.
@@ -88,12 +69,7 @@ pub fn first_inconsistent(workunits: &[Workunit]) -> Option<usize>
     // are.
     ensures { FirstAgainst IsConsistent workunits.now result }
 {
-    for (place, workunit) in workunits.iter().enumerate() {
-        if !is_consistent_workunit(workunit) {
-            return Some(place);
-        }
-    }
-    None
+    first_against(workunits, is_consistent_workunit)
 }
 
 /// Returns the place of the first archived row whose mask has a bit that this project never sets, or `None` if there is
@@ -103,12 +79,7 @@ pub fn first_impossible_mask(archived: &[Archived]) -> Option<usize>
     // that none has one.
     ensures { FirstAgainst HasPossibleMask archived.now result }
 {
-    for (place, row) in archived.iter().enumerate() {
-        if !has_possible_mask(row) {
-            return Some(place);
-        }
-    }
-    None
+    first_against(archived, has_possible_mask)
 }
 
 /// Returns the place of the first workunit with a number that was not given, or `None` if there is none.
@@ -117,13 +88,10 @@ pub fn first_ungiven(loaded: &Loaded) -> Option<usize>
     // that none has one.
     ensures { FirstAgainst (λ w. IsGiven loaded.now w.number) loaded.now.workunits result }
 {
-    let workunits = loaded.workunits();
-    for (place, workunit) in workunits.iter().enumerate() {
-        if !is_given(loaded, workunit.number) {
-            return Some(place);
-        }
-    }
-    None
+    first_against(
+        loaded.workunits(),
+        |workunit| is_given(loaded, workunit.number),
+    )
 }
 
 /// Returns the place of the first archived row with a number that was not given, or `None` if there is none.
@@ -132,13 +100,7 @@ pub fn first_ungiven_archived(loaded: &Loaded) -> Option<usize>
     // means that none has one.
     ensures { FirstAgainst (λ row. IsGiven loaded.now row.number) loaded.now.archived result }
 {
-    let archived = loaded.archived();
-    for (place, row) in archived.iter().enumerate() {
-        if !is_given(loaded, row.number) {
-            return Some(place);
-        }
-    }
-    None
+    first_against(loaded.archived(), |row| is_given(loaded, row.number))
 }
 
 /// Returns the place of the first grant for a number that was not given, or with a number or a credit out of its range.
@@ -148,13 +110,7 @@ pub fn first_wrong_grant(loaded: &Loaded) -> Option<usize>
     // `None`: there is none.
     ensures { FirstAgainst (IsRightGrant loaded.now) loaded.now.grants result }
 {
-    let grants = loaded.grants();
-    for (place, grant) in grants.iter().enumerate() {
-        if !is_right_grant(loaded, grant) {
-            return Some(place);
-        }
-    }
-    None
+    first_against(loaded.grants(), |grant| is_right_grant(loaded, grant))
 }
 
 /// Returns the place of the first host whose class is out of its range, or `None` if there is none.
@@ -163,10 +119,5 @@ pub fn first_unclassed(classes: &[HostClass]) -> Option<usize>
     // has one.
     ensures { FirstAgainst IsClassed classes.now result }
 {
-    for (place, it) in classes.iter().enumerate() {
-        if !is_classed(it) {
-            return Some(place);
-        }
-    }
-    None
+    first_against(classes, is_classed)
 }

@@ -7,6 +7,7 @@ ghost use Rattle.wu_audit.specs.Against.{FirstAgainst};
 ghost use Rattle.wu_audit.specs.Records.{IsGranted, IsArchivedIfDone, IsNameFree};
 ghost use Rattle.wu_audit.specs.Sets.{AreValidHeld, IsHeldIfDone, IsHeldIfValid, IsNotHeldUnlessDone};
 
+use crate::against::first_against;
 use crate::once::{archived_names_of, granted_of, numbers_of};
 use std::alloc::{AllocError, Global};
 use std::collections::HashSet;
@@ -36,25 +37,16 @@ fn is_held_if_valid(
 fn are_valid_held(granted: &HashSet<(u64, u32)>, workunit: &Workunit) -> bool
     ensures { IsTrue result ↔ AreValidHeld granted.now workunit.now }
 {
-    let instances = workunit.instances.as_slice();
-    for (n, instance) in instances.iter().enumerate() {
-        if !is_held_if_valid(granted, workunit.number, n as u32, instance.validate_state) {
-            return false;
-        }
-    }
-    true
+    workunit.instances.iter().enumerate().all(|(n, instance)| {
+        is_held_if_valid(granted, workunit.number, n as u32, instance.validate_state)
+    })
 }
 
 /// Returns the place of the first workunit with a VALID instance that is not in the set, or `None` if there is none.
 fn first_with_valid_unheld(granted: &HashSet<(u64, u32)>, workunits: &[Workunit]) -> Option<usize>
     ensures { FirstAgainst (AreValidHeld granted.now) workunits.now result }
 {
-    for (place, workunit) in workunits.iter().enumerate() {
-        if !are_valid_held(granted, workunit) {
-            return Some(place);
-        }
-    }
-    None
+    first_against(workunits, |workunit| are_valid_held(granted, workunit))
 }
 
 /// Returns the place of the first workunit with a VALID instance that has no grant, or `None` if there is none.
@@ -83,12 +75,7 @@ fn is_held_if_done(numbers: &HashSet<u64>, workunit: &Workunit) -> bool
 fn first_done_unheld(numbers: &HashSet<u64>, workunits: &[Workunit]) -> Option<usize>
     ensures { FirstAgainst (IsHeldIfDone numbers.now) workunits.now result }
 {
-    for (place, workunit) in workunits.iter().enumerate() {
-        if !is_held_if_done(numbers, workunit) {
-            return Some(place);
-        }
-    }
-    None
+    first_against(workunits, |workunit| is_held_if_done(numbers, workunit))
 }
 
 /// Returns the place of the first assimilated workunit without an archived row, or `None` if there is none.
@@ -118,12 +105,10 @@ fn is_not_held_unless_done(names: &HashSet<&str>, workunit: &Workunit) -> bool
 fn first_held(names: &HashSet<&str>, workunits: &[Workunit]) -> Option<usize>
     ensures { FirstAgainst (IsNotHeldUnlessDone names.now) workunits.now result }
 {
-    for (place, workunit) in workunits.iter().enumerate() {
-        if !is_not_held_unless_done(names, workunit) {
-            return Some(place);
-        }
-    }
-    None
+    first_against(
+        workunits,
+        |workunit| is_not_held_unless_done(names, workunit),
+    )
 }
 
 /// Returns the place of the first workunit that is not assimilated and has the name of an archived one, or `None` if

@@ -1,6 +1,7 @@
 //! Whether a world held in memory is sound, and what is wrong with it if not.
 #![tactic(auto)]
 
+mod against;
 mod auditing;
 pub mod examples;
 mod firsts;

@@ -75,11 +75,10 @@ pub fn first_repeat<K: Eq + Hash + Copy + Drop>(
 fn names_of<'a>(alloc: Global, workunits: &'a [Workunit]) -> Result<Vec<&'a str>, AllocError>
     ensures { IfOk result (λ names. AreKeysOf IsNameOf workunits.now names.items) }
 {
-    let mut names = Vec::new(alloc);
-    for workunit in workunits {
-        names.push(workunit.name.as_str())?;
-    }
-    Ok(names)
+    workunits
+        .iter()
+        .map(|workunit| workunit.name.as_str())
+        .collect(alloc)
 }
 
 /// Returns the place of the first workunit that has the name of an earlier one, or `None` if there is none.
@@ -145,11 +144,7 @@ pub(crate) fn archived_names_of<'a>(
     // These are the names of the archived rows, in their order.
     ensures { IfOk result (λ names. AreKeysOf IsArchivedName archived.now names.items) }
 {
-    let mut names = Vec::new(alloc);
-    for row in archived {
-        names.push(row.name.as_str())?;
-    }
-    Ok(names)
+    archived.iter().map(|row| row.name.as_str()).collect(alloc)
 }
 
 /// Returns the place of the first archived row that has the name of an earlier one, or `None` if there is none.
@@ -172,11 +167,10 @@ fn import_keys_of<'a>(
 ) -> Result<Vec<(u32, &'a str)>, AllocError>
     ensures { IfOk result (λ keys. AreKeysOf IsImportKey imports.now keys.items) }
 {
-    let mut keys = Vec::new(alloc);
-    for import in imports {
-        keys.push((import.kind().code(), import.name().as_str()))?;
-    }
-    Ok(keys)
+    imports
+        .iter()
+        .map(|import| (import.kind().code(), import.name().as_str()))
+        .collect(alloc)
 }
 
 /// Returns the place of the first import that has the kind and name of an earlier one, or `None` if there is none.

@@ -6,6 +6,7 @@ ghost use Rattle.wu_audit.specs.Against.{FirstAgainst};
 ghost use Rattle.wu_audit.specs.Places.{Ascends, IsBoundOf, IsPlaceOf};
 ghost use Rattle.wu_audit.specs.Records.{IsArchivedOf, IsBackedGrant, IsBackedRow, IsGrantOf};
 
+use crate::against::first_against;
 use wu_core::{Archived, Assimilate, Grant, Instance, Moment, Name, ValidateState, Workunit};
 
 /// Returns the first place of a workunit with this number or a higher one.
@@ -77,12 +78,7 @@ pub fn first_unbacked_grant(workunits: &[Workunit], grants: &[Grant]) -> Option<
     // present workunit; `None`: there is none.
     ensures { FirstAgainst (IsBackedGrant workunits.now) grants.now result }
 {
-    for (place, grant) in grants.iter().enumerate() {
-        if !is_backed_grant(workunits, grant) {
-            return Some(place);
-        }
-    }
-    None
+    first_against(grants, |grant| is_backed_grant(workunits, grant))
 }
 
 /// Returns whether two canonical numbers are the same, or both are none.
@@ -140,10 +136,5 @@ pub fn first_unbacked_row(workunits: &[Workunit], archived: &[Archived]) -> Opti
     // assimilated; `None` means that there is none.
     ensures { FirstAgainst (IsBackedRow workunits.now) archived.now result }
 {
-    for (place, row) in archived.iter().enumerate() {
-        if !is_backed_row(workunits, row) {
-            return Some(place);
-        }
-    }
-    None
+    first_against(archived, |row| is_backed_row(workunits, row))
 }

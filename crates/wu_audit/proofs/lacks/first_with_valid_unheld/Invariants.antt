@@ -1,7 +1,0 @@
-use Rattle.std.proofs.Common.{ℕ, ◌<◌, get_or}
-use Rattle.wu_core.specs.declared.workunit.Workunit.{Workunit}
-use Rattle.wu_audit.specs.Sets.{AreValidHeld}
-use Rattle.wu_audit.proofs.lacks.first_with_valid_unheld.Given as goal
-
-abbrev pub invariant-loop-place : goal.invariant-loop-place
-invariant-loop-place l = (k : ℕ) → k < l.place → (d : Workunit) → AreValidHeld l.granted (get_or l.workunits k d)
