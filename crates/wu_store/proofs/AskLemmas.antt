@@ -177,14 +177,15 @@ reads_made g old new x y it then = record {
   unrefused = λ clean world stood may limit. tt;
 }
 
--- what a call that asks nothing makes of an answer, where it fails for memory or for a cause of its own
+-- what a call that asks nothing makes of an answer, where it fails for a cause of its own
 pub reads_also : {S T U : Type 0} (g : Ghosts S) (old new : Held S) {Told Also : Fault → Type 0} {Over : Database → World → Type 0} {Finds : Result T Fault → World → Type 0} {Can : World → Type 0} {Then : Result U Fault → World → Type 0} {May : World → Type 0} (x : T) (r : Result U Fault) → r ≢ Err Broken → IfErr r Also
-    → IfErr r (λ fault. fault ≢ NotAProject) → Reads g old new (Ok x) Told Over Finds Can → ((world : World) → Over (state g old).now world → Finds (Ok x) world → Then r world) → Reads g old new r Also Over Then May
-reads_also g old new x r unbroken also unrefused it then = record {
+    → Reads g old new (Ok x) Told Over Finds Can → ((world : World) → Over (state g old).now world → Finds (Ok x) world → Then r world) → ((world : World) → Over (state g old).now world → Finds (Ok x) world → May world → IfErr r (λ fault. fault ≢ NotAProject))
+    → Reads g old new r Also Over Then May
+reads_also g old new x r unbroken also it then unrefused = record {
   asks = asks_made g old new x r unbroken it.asks;
   fault = also;
   found = λ clean world stood. then world stood (it.found clean world stood);
-  unrefused = λ clean world stood may limit. unrefused;
+  unrefused = λ clean world stood may limit. unrefused world stood (it.found clean world stood) may;
 }
 
 -- a call behind one that was answered, which found this
@@ -256,11 +257,6 @@ pub never_broken : {U : Type 0} (r : Result U Fault) → IfErr r (λ fault. (fau
 never_broken (Ok y) told is = absurd cc
 never_broken (Err fault) (inl memory) is = absurd (let same = is in cc)
 never_broken (Err fault) (inr refused) is = absurd (let same = is in cc)
-
-pub handed_unbroken : {U : Type 0} (r : Result U Fault) (fault : Fault) → IsErrAnd r (λ other. other ≡ fault) → (fault ≡ Memory) ⊎ (fault ≡ NotAProject) → r ≢ Err Broken
-handed_unbroken (Ok y) fault same told is = absurd same
-handed_unbroken (Err other) fault same (inl memory) is = absurd (let no : Memory ≡ Broken = sym memory ∙ sym same ∙ (let broke = is in cc) in cc)
-handed_unbroken (Err other) fault same (inr refused) is = absurd (let no : NotAProject ≡ Broken = sym refused ∙ sym same ∙ (let broke = is in cc) in cc)
 
 -- an open connection is open after an answer
 pub still_open : {S T : Type 0} (g : Ghosts S) (old new : Held S) (x : T) → Asks g old new (Ok x) → HasCleanDisk (state g new) → IsTrue (state g old).is_open → IsTrue (state g new).is_open

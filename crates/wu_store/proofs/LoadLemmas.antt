@@ -11,9 +11,8 @@ use Rattle.std.proofs.lemmas.List.Elements.{All-weaker}
 use Rattle.wu_core.specs.Formed.{IsInstance, IsWorkunit}
 use Rattle.wu_core.specs.Limits.{most_instances}
 use Rattle.wu_store.specs.Reads.{FindsAt, ReadsWorld}
-use Rattle.sqlite.proofs.StateLemmas.{survives_then}
 use Rattle.wu_schema.proofs.CallLemmas.{back_none}
-use Rattle.wu_schema.proofs.AskingLemmas.{back_then, survives_none}
+use Rattle.wu_schema.proofs.AskingLemmas.{survives_none}
 use Rattle.wu_schema.specs.Restoring.{Restores}
 use Rattle.wu_schema.specs.Stored.{kept_cells}
 use Rattle.wu_store.specs.Answers.{instance_rows_of, kept_of, last_of, last_place, numbered, row_before}
@@ -32,12 +31,6 @@ use Rattle.wu_store.proofs.SameWorld.{only_one, same_instances, same_workunit}
 
 pub read_none : (s : State) → IsReadOnly s s
 read_none s = record { survives = survives_none s; back = λ _. back_none s }
-
-pub read_then : (a b c : State) → IsReadOnly a b → IsReadOnly b c → IsReadOnly a c
-read_then a b c one two = record {
-  survives = survives_then a b c _ _ (λ _. ⊥) (λ _ db none. none) (λ _ db none. none) one.survives two.survives;
-  back = λ clean. back_then a b c (one.back (omega (arith, two.survives.clean))) (two.back clean);
-}
 
 -- what any number of questions do is a read
 pub asks_read : {S T : Type 0} (g : Ghosts S) (old new : Held S) (r : Result T Fault) → Asks g old new r → IsReadOnly (state g old) (state g new)

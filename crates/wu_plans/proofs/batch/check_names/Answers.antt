@@ -1,53 +1,39 @@
-use Rattle.std.proofs.Common.{rules, ◌+◌, ◌∙◌, sym, ap, arith, inl}
-use Rattle.sqlite.specs.State.{HasCleanDisk}
-use Rattle.sqlite.specs.Held.{state}
+use Rattle.wu_store.proofs.AskLemmas.{reads_none, reads_told, reads_made, reads_also, reads_handed, reads_then, reads_both}
+use Rattle.std.specs.Prelude.{⊤}
+use Rattle.wu_plans.specs.Planning.{FindsFree}
+use Rattle.std.proofs.Common.{refl, rules, ◌+◌, ◌∙◌, sym, ap, arith, inl, inr}
 use Rattle.wu_core.specs.declared.fault.Fault.TheVariants.{WorkunitUsed}
-use Rattle.wu_schema.specs.Refines.{Refines}
-use Rattle.wu_plans.proofs.AskLemmas.{asks_done, asks_handed, asks_made, asks_none, asks_stands, asks_then, free_more, handed_on, taken_here, all_free}
+use Rattle.wu_plans.proofs.AskLemmas.{free_more, taken_here, all_free}
 use Rattle.wu_plans.proofs.batch.check_names.Goals as goal
 
 pub loop-job-init : goal.loop-job-init
-loop-job-init g c = (search rules, asks_none g.S.Store _ _ (λ is. absurd cc), λ clean world stands. search rules)
+loop-job-init g c = (search rules, reads_none g.S.Store _ tt (λ world stands. search rules))
 
 pub returns-then-branch : goal.returns-then-branch
-returns-then-branch g c = record {
-  asks = let (place, asks, free) = c.loop-job.invariant in
-      asks_then g.S.Store _ _ _ tt asks _ (asks_made g.S.Store _ _ c.in_ok-is_used.field-0 _ (λ is. absurd cc) c.in_ok-is_used.ensures.asks);
-  fault = search rules;
-  found = λ clean world stands. let (place, asks, free) = c.loop-job.invariant in
-      let before : HasCleanDisk (state g.S.Store c.loop-job.conn) = omega (arith, c.is_used.ensures.asks.crash.clean) in
-      let still : Refines (state g.S.Store c.loop-job.conn).now world = asks_stands g.S.Store _ _ tt asks before world stands in
-      let used = sym c.if-branch.true ∙ c.in_ok-is_used.ensures.found clean world still in
-      let here = taken_here world c.args.jobs.now c.loop-job.job-index c.job-item.result c.job-item.result c.loop-job-test.true (sym c.job-item.is) (rw place at used) (free before world stands) in
-      inl ((c.loop-job.job-index, c.job-item.result.name), here, ap (λ n. WorkunitUsed (n + 2)) place);
-  unrefused = search rules;
-}
+returns-then-branch g c =
+    let (place, free) = c.loop-job.invariant in
+    let used = c.in_ok-is_used.field-0 in
+    reads_also g.S.Store _ _ used _ (λ is. absurd cc) (inl (_, refl)) (reads_both g.S.Store _ _ _ tt free used (reads_told (λ fault told. inr told) c.in_ok-is_used.ensures)) (λ world stands found.
+    let here = taken_here world c.args.jobs.now c.loop-job.job-index c.job-item.result c.job-item.result c.loop-job-test.true (sym c.job-item.is) (rw place at (sym c.if-branch.true ∙ found.1)) found.0 in
+    inl ((c.loop-job.job-index, c.job-item.result.name), here, ap (λ n. WorkunitUsed (n + 2)) place)) (λ world stands found any is. absurd cc)
 
 pub loop-job-preserved : goal.loop-job-preserved
 loop-job-preserved g c =
-    let (place, asks, free) = c.loop-job.invariant in (
+    let (place, free) = c.loop-job.invariant in
+    let used = c.in_ok-is_used.field-0 in (
       ap (λ n. n + 1) place,
-      asks_then g.S.Store _ _ _ tt asks _ (asks_done g.S.Store _ _ c.in_ok-is_used.field-0 c.in_ok-is_used.ensures.asks),
-      λ clean world stands.
-          let before : HasCleanDisk (state g.S.Store c.loop-job.conn) = omega (arith, c.is_used.ensures.asks.crash.clean) in
-          let still : Refines (state g.S.Store c.loop-job.conn).now world = asks_stands g.S.Store _ _ tt asks before world stands in
-          let unused = sym c.if-branch.false ∙ c.in_ok-is_used.ensures.found clean world still in
-          free_more world c.args.jobs.now c.loop-job.job-index c.job-item.result c.job-item.result c.loop-job-test.true (sym c.job-item.is) (rw place at unused) (free before world stands),
+      reads_made g.S.Store _ _ used tt (reads_both g.S.Store _ _ _ tt free used (reads_told (λ fault told. inr told) c.in_ok-is_used.ensures)) (λ world stands found.
+          free_more world c.args.jobs.now c.loop-job.job-index c.job-item.result c.job-item.result c.loop-job-test.true (sym c.job-item.is) (rw place at (sym c.if-branch.false ∙ found.1)) found.0),
     )
 
 pub returns-in_err-is_used : goal.returns-in_err-is_used
-returns-in_err-is_used g c = record {
-  asks = let (place, asks, free) = c.loop-job.invariant in
-      asks_then g.S.Store _ _ _ tt asks _ (asks_handed g.S.Store _ _ c.from_residual.result c.in_err-is_used.field-0.0 c.from_residual.ensures.1 c.in_err-is_used.ensures.asks);
-  fault = search rules;
-  found = search rules;
-  unrefused = λ clean world stands any limit. let (place, asks, free) = c.loop-job.invariant in
-      let before : HasCleanDisk (state g.S.Store c.loop-job.conn) = omega (arith, c.is_used.ensures.asks.crash.clean) in
-      handed_on c.from_residual.result c.in_err-is_used.field-0.0 c.from_residual.ensures.1
-      (c.in_err-is_used.ensures.unrefused clean world (asks_stands g.S.Store _ _ tt asks before world stands) tt (asks.crash.limit ∙ limit));
-}
+returns-in_err-is_used g c =
+    let (place, free) = c.loop-job.invariant in
+    let r = c.from_residual.result in
+    let handed = reads_handed g.S.Store _ _ {Then = FindsFree c.args.jobs.now} {May = λ _. ⊤} r c.in_err-is_used.field-0.0 c.from_residual.ensures.1 c.in_err-is_used.ensures (λ other told world. inr told) (λ world stands any. tt) in
+    reads_then g.S.Store _ _ _ tt free r (reads_told (λ fault told. inr told) handed) (λ world stands found free. free) (λ world stands found any. tt)
 
 pub returns : goal.returns
 returns g c =
-    let (place, asks, free) = c.loop-job.invariant in
-    record { asks = asks; fault = tt; found = λ clean world stands. all_free world c.args.jobs.now c.loop-job.job-index (omega (arith, c.loop-job-test.false)) (free clean world stands); unrefused = λ clean world stands any limit. tt }
+    let (place, free) = c.loop-job.invariant in
+    reads_made g.S.Store _ _ tt tt free (λ world stands found. all_free world c.args.jobs.now c.loop-job.job-index (omega (arith, c.loop-job-test.false)) found)

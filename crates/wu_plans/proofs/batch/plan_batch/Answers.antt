@@ -1,8 +1,8 @@
 use Rattle.wu_plans.proofs.ExitLemmas.{store_going}
-use Rattle.wu_store.proofs.AskLemmas.{reads_handed}
+use Rattle.wu_store.proofs.AskLemmas.{reads_handed, reads_also}
 use Rattle.wu_core.specs.declared.import.ImportKind.TheVariants as kind
 use Rattle.wu_machine.specs.Commands.{batch_of, request_of_batch}
-use Rattle.wu_plans.proofs.AskLemmas.{asks_made, asks_then, found_in_range}
+use Rattle.wu_plans.proofs.AskLemmas.{asks_then, found_in_range}
 use Rattle.wu_machine.proofs.BatchKeeps.{asked_of}
 use Rattle.wu_plans.proofs.ImportPlans.{repeated_planned}
 use Rattle.std.proofs.Common.{arith, inr, rules}
@@ -14,13 +14,10 @@ use Rattle.wu_plans.specs.Planning.{given_of}
 use Rattle.wu_plans.proofs.batch.plan_batch.Goals as goal
 
 pub returns-in-Some-clause-reads : goal.returns-in-Some-clause-reads
-returns-in-Some-clause-reads g c = record {
-  asks = asks_made g.S.Store _ _ c.in_ok-earlier.field-0 c.repeated.result (repeat_unbroken (given_of c.batch_source.result) c.in-Some.earlier c.repeated.result c.repeated.ensures.fault) c.in_ok-earlier.ensures.reads.asks;
-  fault = repeat_going (given_of c.batch_source.result) c.in-Some.earlier c.repeated.result c.repeated.ensures.fault;
-  found = λ clean world stands is project. repeated_planned world (request_of_batch c.args.batch.now) (batch_of c.args.batch.now) (asked_of world is c.args.batch.now.name c.args.batch.now.template c.args.batch.now.file) c.in-Some.earlier c.repeated.result
-      (rw c.in-Some.is at (c.in_ok-earlier.ensures.reads.found clean world stands)) (rw c.batch_source.ensures at c.repeated.ensures.plan) (rw c.batch_source.ensures at c.repeated.ensures.fault);
-  unrefused = λ clean world stands project limit. repeat_unrefused (given_of c.batch_source.result) c.in-Some.earlier c.repeated.result c.repeated.ensures.fault;
-}
+returns-in-Some-clause-reads g c =
+    reads_also g.S.Store _ _ c.in_ok-earlier.field-0 c.repeated.result (repeat_unbroken (given_of c.batch_source.result) c.in-Some.earlier c.repeated.result c.repeated.ensures.fault) (repeat_going (given_of c.batch_source.result) c.in-Some.earlier c.repeated.result c.repeated.ensures.fault) c.in_ok-earlier.ensures.reads (λ world stands earlier is project. repeated_planned world (request_of_batch c.args.batch.now) (batch_of c.args.batch.now) (asked_of world is c.args.batch.now.name c.args.batch.now.template c.args.batch.now.file) c.in-Some.earlier c.repeated.result
+    (rw c.in-Some.is at earlier) (rw c.batch_source.ensures at c.repeated.ensures.plan) (rw c.batch_source.ensures at c.repeated.ensures.fault))
+    (λ world stands earlier can. repeat_unrefused (given_of c.batch_source.result) c.in-Some.earlier c.repeated.result c.repeated.ensures.fault)
 
 pub returns-in_err-earlier-clause-reads : goal.returns-in_err-earlier-clause-reads
 returns-in_err-earlier-clause-reads g c =

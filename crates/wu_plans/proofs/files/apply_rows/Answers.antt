@@ -36,7 +36,7 @@ returns-in_err-push-clause-reads g c =
     let r = c.from_residual-in_err-push.result in
     let told : IfErr r IsReadFault = search rules in
     let verdict = c.in_ok-apply_row.field-0 in
-    reads_also g.S.Store _ _ verdict r (never_broken r told) (fault_read r told) (search rules) (reads_both g.S.Store _ _ _ tt left verdict c.in_ok-apply_row.ensures.reads) (λ world stood found known. search rules)
+    reads_also g.S.Store _ _ verdict r (never_broken r told) (fault_read r told) (reads_both g.S.Store _ _ _ tt left verdict c.in_ok-apply_row.ensures.reads) (λ world stood found known. search rules) (λ world stood found can. search rules)
 
 pub returns-clause-reads : goal.returns-clause-reads
 returns-clause-reads g c =

@@ -1,3 +1,4 @@
+use Rattle.wu_store.proofs.AskLemmas.{reads_also}
 use Rattle.std.proofs.Common.{◌≡◌, ◌∙◌, Some, sym, rules}
 use Rattle.wu_machine.specs.Worlds.{workunit_named}
 use Rattle.wu_store.proofs.WorldOnce.{once_named}
@@ -15,14 +16,11 @@ returns-then-has g c = record {
 }
 
 pub returns-in-Some : goal.returns-in-Some
-returns-in-Some g c = record {
-  asks = asks_made g.S.Store _ _ c.in_ok-workunit.field-0 c.insert.result (memory_unbroken c.insert.result c.insert.ensures.fault) c.in_ok-workunit.ensures.reads.asks;
-  fault = memory_told c.insert.result c.insert.ensures.fault;
-  found = λ clean world stands known images. let new = not_touched c.args.touched.now c.args.name.now (sym c.has.ensures ∙ c.if-has.false) in
-      let present : workunit_named world c.args.name.now ≡ Some c.in-Some.workunit = sym (sym c.in-Some.is ∙ c.in_ok-workunit.ensures.reads.found clean world stands known) in
-      taken_in world (once_named _ world stands) c.args.touched.now c.insert.new.self c.args.name.now c.in-Some.workunit present new images c.insert.result c.insert.ensures.also;
-  unrefused = λ clean world stands can limit. memory_unrefused c.insert.result c.insert.ensures.fault;
-}
+returns-in-Some g c =
+    reads_also g.S.Store _ _ c.in_ok-workunit.field-0 c.insert.result (memory_unbroken c.insert.result c.insert.ensures.fault) (memory_told c.insert.result c.insert.ensures.fault) c.in_ok-workunit.ensures.reads (λ world stands earlier known images. let new = not_touched c.args.touched.now c.args.name.now (sym c.has.ensures ∙ c.if-has.false) in
+    let present : workunit_named world c.args.name.now ≡ Some c.in-Some.workunit = sym (sym c.in-Some.is ∙ earlier known) in
+    taken_in world (once_named _ world stands) c.args.touched.now c.insert.new.self c.args.name.now c.in-Some.workunit present new images c.insert.result c.insert.ensures.also)
+    (λ world stands earlier can. memory_unrefused c.insert.result c.insert.ensures.fault)
 
 pub returns-in-None : goal.returns-in-None
 returns-in-None g c = record {

@@ -1,5 +1,4 @@
-use Rattle.wu_store.proofs.AskLemmas.{reads_handed}
-use Rattle.wu_plans.proofs.AskLemmas.{asks_made}
+use Rattle.wu_store.proofs.AskLemmas.{reads_handed, reads_also}
 use Rattle.wu_plans.proofs.ExitLemmas.{memory_told, memory_unbroken, memory_unrefused}
 use Rattle.std.proofs.Common.{length, rules, ◌<◌}
 use Rattle.wu_schema.proofs.CallLemmas.{ok_on}
@@ -10,11 +9,8 @@ pub returns-in_err-place : goal.returns-in_err-place
 returns-in_err-place g c = reads_handed g.S.Store _ _ c.from_residual.result c.in_err-place.field-0.0 c.from_residual.ensures.1 c.in_err-place.ensures.reads (λ other told world. tt) (λ world stands any. tt)
 
 pub returns : goal.returns
-returns g c = record {
-  asks = asks_made g.S.Store _ _ c.in_ok-place.place c.with_grants.result (memory_unbroken c.with_grants.result c.with_grants.ensures.fault) c.in_ok-place.ensures.reads.asks;
-  fault = memory_told c.with_grants.result c.with_grants.ensures.fault;
-  found = λ clean world stands. let grants = c.args.grants.items in
-      let some : 0 < length grants = search rules in
-      ok_on c.with_grants.result _ _ (has_grants world c.in_ok-place.place grants c.args.changes.now.items c.with_grants.new.changes.items (c.in_ok-place.ensures.reads.found clean world stands) some) c.with_grants.ensures.added;
-  unrefused = λ clean world stands any limit. memory_unrefused c.with_grants.result c.with_grants.ensures.fault;
-}
+returns g c =
+    reads_also g.S.Store _ _ c.in_ok-place.place c.with_grants.result (memory_unbroken c.with_grants.result c.with_grants.ensures.fault) (memory_told c.with_grants.result c.with_grants.ensures.fault) c.in_ok-place.ensures.reads (λ world stands earlier. let grants = c.args.grants.items in
+    let some : 0 < length grants = search rules in
+    ok_on c.with_grants.result _ _ (has_grants world c.in_ok-place.place grants c.args.changes.now.items c.with_grants.new.changes.items earlier some) c.with_grants.ensures.added)
+    (λ world stands earlier can. memory_unrefused c.with_grants.result c.with_grants.ensures.fault)

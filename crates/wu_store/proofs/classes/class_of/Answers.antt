@@ -4,7 +4,7 @@ use Rattle.wu_schema.proofs.Parts.{HostClasses}
 use Rattle.wu_schema.proofs.InsertEffect.{also, no_more}
 use Rattle.wu_schema.proofs.ReadLemmas.{if_ok}
 use Rattle.wu_store.specs.Classes.{class_named}
-use Rattle.wu_store.proofs.AskLemmas.{asks_made, asks_row, fault_read, never_err, opens_handed, opens_made, asked_row, reads_handed}
+use Rattle.wu_store.proofs.AskLemmas.{fault_read, opens_handed, opens_made, asked_row, reads_handed, reads_also, reads_made, never_broken}
 use Rattle.wu_store.proofs.ClassAnswers.{class_question, host_asked, host_fits, host_found, none_shown, row_named, shown_class}
 use Rattle.wu_store.proofs.LoadLemmas.{never_unread}
 use Rattle.wu_store.proofs.classes.class_of.Goals as goal
@@ -36,12 +36,7 @@ returns-in-Some g c =
     (host_found (state g.S.Store c.args.conn.now) (state g.S.Store c.ask_row.new.conn) host) (Ok row) q.asks q.opens q.shows q.fails q.told in
     record {
       opens = opens_made g.S.Store c.ask_row.new.conn r it.opens;
-      reads = record {
-        asks = asks_row g.S.Store _ _ row r reads.refused it.reads.asks;
-        fault = fault_read r reads.refused;
-        found = λ clean world stood. if_ok r _ _ (λ x value. let e : number x ≡ number (class_named host world) = sym value.0 ∙ shown_class _ c.in-Some.row (sym (it.reads.found clean world stood) ∙ c.in-Some.is) in cc) reads.value;
-        unrefused = λ clean world stood can limit. never_unread number IsClass _ r (class_named host world) reads can (shown_class _ c.in-Some.row (sym (it.reads.found clean world stood) ∙ c.in-Some.is));
-      };
+      reads = reads_also g.S.Store _ _ row r (never_broken r reads.refused) (fault_read r reads.refused) it.reads (λ world stood found. if_ok r _ _ (λ x value. let e : number x ≡ number (class_named host world) = sym value.0 ∙ shown_class _ c.in-Some.row (sym (found) ∙ c.in-Some.is) in cc) reads.value) (λ world stood found can. never_unread number IsClass _ r (class_named host world) reads can (shown_class _ c.in-Some.row (sym (found) ∙ c.in-Some.is)));
     }
 
 pub returns-in-None : goal.returns-in-None
@@ -54,10 +49,5 @@ returns-in-None g c =
     (host_found (state g.S.Store c.args.conn.now) (state g.S.Store c.ask_row.new.conn) host) (Ok row) q.asks q.opens q.shows q.fails q.told in
     record {
       opens = it.opens;
-      reads = record {
-        asks = asks_made g.S.Store _ _ row (Ok 0) (never_err 0) it.reads.asks;
-        fault = tt;
-        found = λ clean world stood. sym (none_shown _ (sym (it.reads.found clean world stood) ∙ c.in-None.is));
-        unrefused = λ clean world stood can limit. tt;
-      };
+      reads = reads_made g.S.Store _ _ row 0 it.reads (λ world stood told. sym (none_shown _ (sym (told) ∙ c.in-None.is)));
     }

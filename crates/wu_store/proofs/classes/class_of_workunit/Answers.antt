@@ -4,7 +4,7 @@ use Rattle.wu_core.specs.Storable.{IsClass}
 use Rattle.wu_schema.proofs.Parts.{WorkClasses}
 use Rattle.wu_schema.proofs.InsertEffect.{also, no_more}
 use Rattle.wu_schema.specs.Reading.{IsReadFault}
-use Rattle.wu_store.proofs.AskLemmas.{asks_made, asks_none, asks_row, fault_handed, fault_read, handed_on, never_broken, never_err, nothing_handed, opens_handed, opens_made, read_handed, read_told, asked_row, reads_handed}
+use Rattle.wu_store.proofs.AskLemmas.{asks_none, fault_handed, fault_read, handed_on, never_broken, nothing_handed, opens_handed, opens_made, read_handed, read_told, asked_row, reads_handed, reads_also, reads_made}
 use Rattle.wu_store.proofs.ChangeLemmas.{sent_number}
 use Rattle.wu_store.proofs.ClassAnswers.{class_question, class_asked, class_fits, class_found, no_work, row_classed, shown_work}
 use Rattle.wu_store.proofs.LoadLemmas.{never_unread}
@@ -57,14 +57,9 @@ returns-in_err-class_at-in-Some g c =
     (class_found (state g.S.Store c.args.conn.now) (state g.S.Store c.ask_row.new.conn) n) (Ok row) q.asks q.opens q.shows q.fails q.told in
     record {
       opens = λ low. opens_made g.S.Store c.ask_row.new.conn r it.opens;
-      reads = record {
-        asks = asks_row g.S.Store _ _ row r refused it.reads.asks;
-        fault = fault_read r refused;
-        found = λ clean world stood. nothing_handed r fault same _;
-        unrefused = λ clean world stood can limit.
-            let class = shown_work _ c.in-Some.row (sym (it.reads.found clean world stood) ∙ c.in-Some.is) in
-            handed_on r fault same (never_unread number IsClass _ (Err fault) class.0 reads (subst (λ o. IfSome o IsClass) class.1 can.1) class.2);
-      };
+      reads = reads_also g.S.Store _ _ row r (never_broken r refused) (fault_read r refused) it.reads (λ world stood found. nothing_handed r fault same _) (λ world stood found can.
+          let class = shown_work _ c.in-Some.row (sym (found) ∙ c.in-Some.is) in
+          handed_on r fault same (never_unread number IsClass _ (Err fault) class.0 reads (subst (λ o. IfSome o IsClass) class.1 can.1) class.2));
     }
 
 pub returns-in_ok-class_at-in-Some : goal.returns-in_ok-class_at-in-Some
@@ -79,16 +74,11 @@ returns-in_ok-class_at-in-Some g c =
     (class_found (state g.S.Store c.args.conn.now) (state g.S.Store c.ask_row.new.conn) n) (Ok row) q.asks q.opens q.shows q.fails q.told in
     record {
       opens = λ low. it.opens;
-      reads = record {
-        asks = asks_made g.S.Store _ _ row (Ok (Some x)) (never_err (Some x)) it.reads.asks;
-        fault = tt;
-        found = λ clean world stood.
-            let class = shown_work _ c.in-Some.row (sym (it.reads.found clean world stood) ∙ c.in-Some.is) in
-            let e : number x ≡ number class.0 = sym reads.value.0 ∙ class.2 in
-            let k : x ≡ class.0 = cc in
-            ap (λ m. Some m) k ∙ sym class.1;
-        unrefused = λ clean world stood can limit. tt;
-      };
+      reads = reads_made g.S.Store _ _ row (Some x) it.reads (λ world stood told.
+          let class = shown_work _ c.in-Some.row (sym (told) ∙ c.in-Some.is) in
+          let e : number x ≡ number class.0 = sym reads.value.0 ∙ class.2 in
+          let k : x ≡ class.0 = cc in
+          ap (λ m. Some m) k ∙ sym class.1);
     }
 
 pub returns-in-None : goal.returns-in-None
@@ -101,10 +91,5 @@ returns-in-None g c =
     (class_found (state g.S.Store c.args.conn.now) (state g.S.Store c.ask_row.new.conn) n) (Ok row) q.asks q.opens q.shows q.fails q.told in
     record {
       opens = λ low. it.opens;
-      reads = record {
-        asks = asks_made g.S.Store _ _ row (Ok None) (never_err None) it.reads.asks;
-        fault = tt;
-        found = λ clean world stood. sym (no_work _ (sym (it.reads.found clean world stood) ∙ c.in-None.is));
-        unrefused = λ clean world stood can limit. tt;
-      };
+      reads = reads_made g.S.Store _ _ row None it.reads (λ world stood told. sym (no_work _ (sym (told) ∙ c.in-None.is)));
     }

@@ -1,21 +1,16 @@
+use Rattle.wu_store.specs.Reads.{ReadsWorld}
+use Rattle.std.specs.Prelude.{⊤}
 use Rattle.std.proofs.Common.{Ok, List, length, take, ◌≡◌}
 use Rattle.std.specs.Prelude.{All}
-use Rattle.sqlite.specs.State.{HasCleanDisk}
-use Rattle.sqlite.specs.Held.{state}
 use Rattle.wu_core.specs.Formed.{IsWorkunit}
-use Rattle.wu_core.specs.World.{World}
 use Rattle.wu_core.specs.declared.workunit.Workunit.{Workunit}
-use Rattle.wu_schema.specs.Refines.{Refines}
 use Rattle.wu_store.specs.Due.{AreNumbersOf}
-use Rattle.wu_store.specs.Loading.{Asks}
 use Rattle.wu_store.specs.StandsFor.{KnowsClasses}
 use Rattle.wu_store.proofs.due.load_all.Given as goal
 
 abbrev pub invariant-loop-row : goal.invariant-loop-row
 invariant-loop-row g l = record {
-  asks : Asks {T = Unit {0}} g.S.Store l.fn.conn l.conn (Ok tt);
   long : length l.found.items ≡ l.row-index;
   formed : All IsWorkunit l.found.items;
-  so_far : HasCleanDisk (state g.S.Store l.conn) → (world : World) → Refines (state g.S.Store l.fn.conn).now world
-      → KnowsClasses world → (ws : List Workunit) → AreNumbersOf l.rows ws world → l.found.items ≡ take l.row-index ws;
+  reads : ReadsWorld {T = Unit {0}} g.S.Store l.fn.conn l.conn (Ok tt) (λ _ world. KnowsClasses world → (ws : List Workunit) → AreNumbersOf l.rows ws world → l.found.items ≡ take l.row-index ws) (λ _. ⊤);
 }

@@ -1,31 +1,21 @@
 use Rattle.std.proofs.Common.{inl, rules, ◌≡◌, ◌-◌, ◌<◌, ◌∙◌, ◌^◌, None, Option, Some, sym, ap, subst, arith}
-use Rattle.std.specs.Prelude.{Vec, ℕ}
-use Rattle.std.specs.declared.alloc.Global.{Global}
-use Rattle.wu_core.specs.declared.marks.Marks.{Marks}
 use Rattle.wu_core.specs.declared.fault.Fault.TheVariants.{Memory, NotAProject}
 use Rattle.wu_schema.specs.Reading.{IsReadFault}
-use Rattle.sqlite.specs.State.{HasCleanDisk}
 use Rattle.sqlite.specs.Held.{state}
 use Rattle.wu_core.specs.declared.workunit.Workunit.{Workunit}
-use Rattle.wu_schema.specs.Refines.{Refines}
 use Rattle.wu_store.specs.Due.{numbers_left}
 use Rattle.wu_store.proofs.DueLemmas.{above_loads}
 use Rattle.wu_store.proofs.MarkedLemmas.{marks_row, marks_rows}
 use Rattle.wu_store.proofs.ListingLemmas.{all_listed, AreListed, listed_storable, one_listed}
-use Rattle.wu_store.proofs.AskLemmas.{asks_done, asks_handed, asks_made, asks_row, asks_stands, asks_then, fault_read, handed_on, match_handed, never_err, opens_handed, opens_made, opens_then, read_handed, read_told, still_open, reads_handed}
+use Rattle.wu_store.proofs.AskLemmas.{asks_handed, fault_read, handed_on, match_handed, opens_handed, opens_made, opens_then, read_handed, read_told, still_open, reads_handed, reads_then_handed, reads_made, reads_also, reads_both, never_broken}
 use Rattle.wu_store.proofs.due.load_marks.Goals as goal
 
 pub returns-in_err-next-2-clause-reads : goal.returns-in_err-next-2-clause-reads
-returns-in_err-next-2-clause-reads g c = record {
-  asks = asks_then g.S.Store _ _ _ tt c.loop-next.invariant.asks _ (asks_handed g.S.Store _ _ c.from_residual-in_err-next-2.result c.in_err-next-2.field-0.0 c.from_residual-in_err-next-2.ensures.1 c.in_err-next-2.ensures.reads.asks);
-  fault = search rules;
-  found = λ clean world stands early. match_handed c.from_residual-in_err-next-2.result c.in_err-next-2.field-0.0 c.from_residual-in_err-next-2.ensures.1 _ c.in_err-next-2.ensures.reads.fault;
-  unrefused = λ clean world stands p3 limit. let (early, storable) = p3 in let before : HasCleanDisk (state g.S.Store c.loop-next.conn) = omega (arith, c.next_after.ensures.reads.asks.crash.clean) in
-      let still : Refines (state g.S.Store c.loop-next.conn).now world = asks_stands g.S.Store _ _ tt c.loop-next.invariant.asks before world stands in
-      let so_far : AreListed marks_row world c.loop-next.rows.items (Some c.in-Some.workunit) = subst (λ (next : Option Workunit). AreListed marks_row world c.loop-next.rows.items next) c.in-Some.is (c.loop-next.invariant.so_far before world stands early) in
-      let can = listed_storable marks_row world c.loop-next.rows.items c.in-Some.workunit so_far storable in
-      handed_on c.from_residual-in_err-next-2.result c.in_err-next-2.field-0.0 c.from_residual-in_err-next-2.ensures.1 (c.in_err-next-2.ensures.reads.unrefused clean world still (above_loads c.in-Some.workunit.number world can.number (early, storable)) (c.loop-next.invariant.asks.crash.limit ∙ limit));
-}
+returns-in_err-next-2-clause-reads g c =
+    reads_then_handed g.S.Store _ _ _ tt c.loop-next.invariant.reads c.from_residual-in_err-next-2.result c.in_err-next-2.field-0.0 c.from_residual-in_err-next-2.ensures.1 c.in_err-next-2.ensures.reads (λ other told world early. told) (λ world stands found can.
+    let so_far : AreListed marks_row world c.loop-next.rows.items (Some c.in-Some.workunit) = subst (λ (next : Option Workunit). AreListed marks_row world c.loop-next.rows.items next) c.in-Some.is (found can.0) in
+    let listed = listed_storable marks_row world c.loop-next.rows.items c.in-Some.workunit so_far can.1 in
+    above_loads c.in-Some.workunit.number world listed.number can)
 
 pub loop-next-smaller : goal.loop-next-smaller
 loop-next-smaller g c =
@@ -35,24 +25,18 @@ loop-next-smaller g c =
 
 pub loop-next-preserved : goal.loop-next-preserved
 loop-next-preserved g c = record {
-  asks = asks_then g.S.Store _ _ _ tt c.loop-next.invariant.asks _ (asks_done g.S.Store _ _ c.in_ok-next-2.next c.in_ok-next-2.ensures.reads.asks);
   opens = λ clean. still_open g.S.Store _ _ _ c.in_ok-next-2.ensures.reads.asks clean (c.loop-next.invariant.opens (omega (arith, c.next_after.ensures.reads.asks.crash.clean)));
-  so_far = λ clean world stands early.
-      let before : HasCleanDisk (state g.S.Store c.loop-next.conn) = omega (arith, c.next_after.ensures.reads.asks.crash.clean) in
-      let still : Refines (state g.S.Store c.loop-next.conn).now world = asks_stands g.S.Store _ _ tt c.loop-next.invariant.asks before world stands in
-      let so_far : AreListed marks_row world c.loop-next.rows.items (Some c.in-Some.workunit) = subst (λ (next : Option Workunit). AreListed marks_row world c.loop-next.rows.items next) c.in-Some.is (c.loop-next.invariant.so_far before world stands early) in
-      one_listed marks_row world c.loop-next.rows.items c.in-Some.workunit so_far (state g.S.Store c.args.conn.now).now stands c.add_marks.new.rows.items c.in_ok-add_marks.ensures.added c.in_ok-next-2.next (c.in_ok-next-2.ensures.reads.found clean world still early);
+  reads = reads_made g.S.Store _ _ c.in_ok-next-2.next tt (reads_both g.S.Store _ _ _ tt c.loop-next.invariant.reads c.in_ok-next-2.next c.in_ok-next-2.ensures.reads) (λ world stands found early.
+      let so_far : AreListed marks_row world c.loop-next.rows.items (Some c.in-Some.workunit) = subst (λ (next : Option Workunit). AreListed marks_row world c.loop-next.rows.items next) c.in-Some.is (found.0 early) in
+      one_listed marks_row world c.loop-next.rows.items c.in-Some.workunit so_far (state g.S.Store c.args.conn.now).now stands c.add_marks.new.rows.items c.in_ok-add_marks.ensures.added c.in_ok-next-2.next (found.1 early));
 }
 
 pub returns-clause-reads : goal.returns-clause-reads
-returns-clause-reads g c = record {
-  asks = asks_made {U = Vec (ℕ × Marks) Global} g.S.Store _ _ tt _ (never_err _) c.loop-next.invariant.asks;
-  fault = search rules;
-  found = λ clean world stands early. let none : c.loop-next.next ≡ None = search rules in
-      let so_far : AreListed marks_row world c.loop-next.rows.items None = subst (λ (next : Option Workunit). AreListed marks_row world c.loop-next.rows.items next) none (c.loop-next.invariant.so_far clean world stands early) in
-      all_listed marks_row world c.loop-next.rows.items so_far ∙ marks_rows world.workunits;
-  unrefused = search rules;
-}
+returns-clause-reads g c =
+    let none : c.loop-next.next ≡ None = search rules in
+    reads_made g.S.Store _ _ tt _ c.loop-next.invariant.reads (λ world stands found early.
+    let so_far : AreListed marks_row world c.loop-next.rows.items None = subst (λ (next : Option Workunit). AreListed marks_row world c.loop-next.rows.items next) none (found early) in
+    all_listed marks_row world c.loop-next.rows.items so_far ∙ marks_rows world.workunits)
 
 pub returns-in_err-next-2-clause-opens : goal.returns-in_err-next-2-clause-opens
 returns-in_err-next-2-clause-opens g c =
@@ -68,12 +52,8 @@ returns-in_err-add_marks g c =
     let told = read_handed r fault same wants in
     record {
       opens = opens_made g.S.Store c.loop-next.conn r c.loop-next.invariant.opens;
-      reads = record {
-        asks = asks_row g.S.Store _ _ tt r told c.loop-next.invariant.asks;
-        fault = fault_read r told;
-        found = λ clean world stands early. match_handed r fault same _ (read_told fault wants);
-        unrefused = λ clean world stands storable limit. handed_on r fault same (λ is. let no : Memory ≡ NotAProject = sym c.in_err-add_marks.ensures.fault ∙ is in cc);
-      };
+      reads = reads_also g.S.Store _ _ tt r (never_broken r told) (fault_read r told) c.loop-next.invariant.reads (λ world stands found early. match_handed r fault same _ (read_told fault wants))
+          (λ world stands found can. handed_on r fault same (λ is. let no : Memory ≡ NotAProject = sym c.in_err-add_marks.ensures.fault ∙ is in cc));
     }
 
 pub returns-in_err-next : goal.returns-in_err-next

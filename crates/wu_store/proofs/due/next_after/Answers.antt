@@ -1,5 +1,5 @@
-use Rattle.wu_schema.proofs.Words.{Err, None, NotAProject, Ok, arith, inr, refl, sym, ◌∙◌, rules}
-use Rattle.wu_store.proofs.AskLemmas.{asks_made, asks_row, never_err, nothing_handed, reads_handed}
+use Rattle.wu_schema.proofs.Words.{Err, None, NotAProject, arith, inr, refl, sym, ◌∙◌}
+use Rattle.wu_store.proofs.AskLemmas.{nothing_handed, reads_handed, reads_made, reads_also}
 use Rattle.wu_store.proofs.DueLemmas.{higher}
 use Rattle.wu_store.proofs.due.next_after.Goals as goal
 
@@ -14,30 +14,14 @@ returns-in_err-next g c =
     }
 
 pub returns-in_default-clause-reads : goal.returns-in_default-clause-reads
-returns-in_default-clause-reads g c = record {
-  asks = asks_made g.S.Store _ _ c.in_ok-next.field-0 (Ok None) (never_err None) c.in_ok-next.ensures.reads.asks;
-  fault = search rules;
-  found = λ clean world stands early. sym c.in_default.is ∙ c.in_ok-next.ensures.reads.found clean world stands early;
-  unrefused = search rules;
-}
+returns-in_default-clause-reads g c = reads_made g.S.Store _ _ c.in_ok-next.field-0 None c.in_ok-next.ensures.reads (λ world stands found early. sym c.in_default.is ∙ found early)
 
 pub returns-then-next-number : goal.returns-then-next-number
 returns-then-next-number g c = record {
   shrinks = tt;
-  reads = record {
-    asks = asks_row g.S.Store _ _ c.in_ok-next.field-0 (Err NotAProject) (inr refl) c.in_ok-next.ensures.reads.asks;
-    fault = inr (inr refl);
-    found = λ clean world stands early. inr (inr refl);
-    unrefused = λ clean world stands can limit refused.
-        let found = sym c.in-Some.is ∙ c.in_ok-next.ensures.reads.found clean world stands can.0 in
-        omega (arith, higher c.args.number world c.in-Some.next (sym found));
-  };
+  reads = reads_also g.S.Store _ _ c.in_ok-next.field-0 (Err NotAProject) (λ is. absurd cc) (inr (inr refl)) c.in_ok-next.ensures.reads (λ world stands found early. inr (inr refl)) (λ world stands found can refused.
+      omega (arith, higher c.args.number world c.in-Some.next (sym (sym c.in-Some.is ∙ found can.0))));
 }
 
 pub returns-clause-reads : goal.returns-clause-reads
-returns-clause-reads g c = record {
-  asks = asks_made g.S.Store _ _ c.in_ok-next.field-0 _ (never_err _) c.in_ok-next.ensures.reads.asks;
-  fault = search rules;
-  found = λ clean world stands early. sym c.in-Some.is ∙ c.in_ok-next.ensures.reads.found clean world stands early;
-  unrefused = search rules;
-}
+returns-clause-reads g c = reads_made g.S.Store _ _ c.in_ok-next.field-0 _ c.in_ok-next.ensures.reads (λ world stands found early. sym c.in-Some.is ∙ found early)

@@ -1,7 +1,7 @@
 use Rattle.wu_schema.proofs.Words.{Err, None, NotAProject, Some, inr, refl, subst, sym, ◌∙◌, ◌≡◌}
 use Rattle.std.specs.Prelude.{IfSome}
 use Rattle.wu_core.specs.Formed.{IsWorkunit}
-use Rattle.wu_store.proofs.AskLemmas.{asks_made, asks_none, asks_row, fault_read, handed_on, match_handed, never_broken, never_err, nothing_handed, read_handed, read_told, reads_handed}
+use Rattle.wu_store.proofs.AskLemmas.{asks_none, fault_read, handed_on, match_handed, never_broken, nothing_handed, read_handed, read_told, reads_handed, reads_made, reads_also}
 use Rattle.wu_store.proofs.QueuedLemmas.{loads_there, number_read, number_told, told_present}
 use Rattle.wu_store.proofs.due.present.Goals as goal
 
@@ -35,27 +35,17 @@ returns-in_err-workunit g c =
 pub returns-in-Some : goal.returns-in-Some
 returns-in-Some g c = record {
   formed = subst (λ o. IfSome o IsWorkunit) c.in-Some.is c.in_ok-workunit.ensures.formed;
-  reads = record {
-    asks = asks_made g.S.Store _ _ c.in_ok-workunit.field-0 _ (never_err _) c.in_ok-workunit.ensures.reads.asks;
-    fault = tt;
-    found = λ clean world stands known w of.
-        let number = number_told c.args.row.now w world of c.in_ok-number.number c.in_ok-number.ensures in
-        let found : Some c.in-Some.workunit ≡ Some w = told_present c.args.row.now w world of c.in_ok-number.number number (Some c.in-Some.workunit) (sym c.in-Some.is ∙ c.in_ok-workunit.ensures.reads.found clean world stands known) in
-        cc;
-    unrefused = λ clean world stands can limit. tt;
-  };
+  reads = reads_made g.S.Store _ _ c.in_ok-workunit.field-0 _ c.in_ok-workunit.ensures.reads (λ world stands told known w of.
+      let number = number_told c.args.row.now w world of c.in_ok-number.number c.in_ok-number.ensures in
+      let found : Some c.in-Some.workunit ≡ Some w = told_present c.args.row.now w world of c.in_ok-number.number number (Some c.in-Some.workunit) (sym c.in-Some.is ∙ told known) in
+      cc);
 }
 
 pub returns-in-None : goal.returns-in-None
 returns-in-None g c = record {
   formed = tt;
-  reads = record {
-    asks = asks_row g.S.Store _ _ c.in_ok-workunit.field-0 (Err NotAProject) (inr refl) c.in_ok-workunit.ensures.reads.asks;
-    fault = inr (inr refl);
-    found = λ clean world stands known w of. inr (inr refl);
-    unrefused = λ clean world stands can limit.
-        let number = number_told c.args.row.now can.1 world can.2 c.in_ok-number.number c.in_ok-number.ensures in
-        let none : None ≡ Some can.1 = told_present c.args.row.now can.1 world can.2 c.in_ok-number.number number None (sym c.in-None.is ∙ c.in_ok-workunit.ensures.reads.found clean world stands can.0) in
-        absurd cc;
-  };
+  reads = reads_also g.S.Store _ _ c.in_ok-workunit.field-0 (Err NotAProject) (λ is. absurd cc) (inr (inr refl)) c.in_ok-workunit.ensures.reads (λ world stands found known w of. inr (inr refl)) (λ world stands found can refused.
+      let number = number_told c.args.row.now can.1 world can.2 c.in_ok-number.number c.in_ok-number.ensures in
+      let none : None ≡ Some can.1 = told_present c.args.row.now can.1 world can.2 c.in_ok-number.number number None (sym c.in-None.is ∙ found can.0) in
+      absurd cc);
 }

@@ -5,7 +5,7 @@ use Rattle.wu_store.specs.Answers.{kept_of}
 use Rattle.wu_store.proofs.SelectTexts.{import_asked, import_fits}
 use Rattle.wu_store.proofs.ReadAnswers.{import_found}
 use Rattle.std.specs.Option.{option_copied}
-use Rattle.wu_store.proofs.AskLemmas.{asked_all, asks_made, asks_row, fault_read, handed_on, match_handed, never_err, opens_handed, opens_made, question, read_handed, read_told, reads_handed}
+use Rattle.wu_store.proofs.AskLemmas.{asked_all, fault_read, handed_on, match_handed, opens_handed, opens_made, question, read_handed, read_told, reads_handed, reads_also, reads_made, never_broken}
 use Rattle.wu_store.proofs.LoadLemmas.{import_read, no_first, none_earlier, one_first, some_earlier}
 use Rattle.wu_store.proofs.loading.import_of.Goals as goal
 
@@ -35,14 +35,9 @@ returns-in_err-import_from-in-Some g c =
     let refused = read_handed r fault same c.in_err-import_from-in-Some.ensures.refused in
     record {
       opens = opens_made g.S.Store c.query.new.conn r asked.opens;
-      reads = record {
-        asks = asks_row g.S.Store _ _ c.in_ok-rows.rows r refused asked.reads.asks;
-        fault = fault_read r refused;
-        found = λ clean world stands. match_handed r fault same _ (read_told fault c.in_err-import_from-in-Some.ensures.refused);
-        unrefused = λ clean world stands has limit.
-            let first = one_first c.deref.result.now c.in-Some.row.now (sym c.first.ensures.value ∙ ap option_copied c.in-Some.is) in
-            handed_on r fault same (import_read c.args.kind c.args.name.now world c.in-Some.row.now first.0 (sym (c.deref.ensures.value ∙ asked.reads.found clean world stands) ∙ first.1) _ c.in_err-import_from-in-Some.ensures has);
-      };
+      reads = reads_also g.S.Store _ _ c.in_ok-rows.rows r (never_broken r refused) (fault_read r refused) asked.reads (λ world stands found. match_handed r fault same _ (read_told fault c.in_err-import_from-in-Some.ensures.refused)) (λ world stands found has.
+          let first = one_first c.deref.result.now c.in-Some.row.now (sym c.first.ensures.value ∙ ap option_copied c.in-Some.is) in
+          handed_on r fault same (import_read c.args.kind c.args.name.now world c.in-Some.row.now first.0 (sym (c.deref.ensures.value ∙ found) ∙ first.1) _ c.in_err-import_from-in-Some.ensures has));
     }
 
 pub returns-in-Some : goal.returns-in-Some
@@ -53,14 +48,9 @@ returns-in-Some g c =
     (λ rows h world s. import_found (state g.S.Store c.args.conn.now) (state g.S.Store c.query.new.conn) world s c.args.kind c.args.name.now rows h) (Ok c.in_ok-rows.rows) q.asks q.opens q.shows q.fails q.told in
     record {
       opens = asked.opens;
-      reads = record {
-        asks = asks_made g.S.Store _ _ c.in_ok-rows.rows _ (never_err _) asked.reads.asks;
-        fault = tt;
-        found = λ clean world stands.
-            let first = one_first c.deref.result.now c.in-Some.row.now (sym c.first.ensures.value ∙ ap option_copied c.in-Some.is) in
-            some_earlier c.args.kind c.args.name.now world c.in-Some.row.now first.0 (sym (c.deref.ensures.value ∙ asked.reads.found clean world stands) ∙ first.1) c.in_ok-import_from-in-Some.field-0 c.in_ok-import_from-in-Some.ensures;
-        unrefused = λ clean world stands has limit. tt;
-      };
+      reads = reads_made g.S.Store _ _ c.in_ok-rows.rows _ asked.reads (λ world stands found.
+          let first = one_first c.deref.result.now c.in-Some.row.now (sym c.first.ensures.value ∙ ap option_copied c.in-Some.is) in
+          some_earlier c.args.kind c.args.name.now world c.in-Some.row.now first.0 (sym (c.deref.ensures.value ∙ found) ∙ first.1) c.in_ok-import_from-in-Some.field-0 c.in_ok-import_from-in-Some.ensures);
     }
 
 pub returns : goal.returns
@@ -71,11 +61,6 @@ returns g c =
     (λ rows h world s. import_found (state g.S.Store c.args.conn.now) (state g.S.Store c.query.new.conn) world s c.args.kind c.args.name.now rows h) (Ok c.in_ok-rows.rows) q.asks q.opens q.shows q.fails q.told in
     record {
       opens = asked.opens;
-      reads = record {
-        asks = asks_made g.S.Store _ _ c.in_ok-rows.rows (Ok None) (never_err None) asked.reads.asks;
-        fault = tt;
-        found = λ clean world stands.
-            none_earlier c.args.kind c.args.name.now world (sym (c.deref.ensures.value ∙ asked.reads.found clean world stands) ∙ no_first c.deref.result.now (sym c.first.ensures.value ∙ ap option_copied c.in-None.is));
-        unrefused = λ clean world stands has limit. tt;
-      };
+      reads = reads_made g.S.Store _ _ c.in_ok-rows.rows None asked.reads (λ world stands found.
+          none_earlier c.args.kind c.args.name.now world (sym (c.deref.ensures.value ∙ found) ∙ no_first c.deref.result.now (sym c.first.ensures.value ∙ ap option_copied c.in-None.is)));
     }

@@ -3,7 +3,7 @@ use Rattle.wu_schema.proofs.Parts.{Instances}
 use Rattle.wu_schema.proofs.InsertEffect.{also, no_more}
 use Rattle.wu_store.specs.Answers.{instance_rows_of}
 use Rattle.wu_schema.specs.Reading.{IsReadFault}
-use Rattle.wu_store.proofs.AskLemmas.{asked_all, asks_none, asks_row, fault_handed, fault_read, match_handed, never_broken, nothing_handed, question, read_handed, read_told, reads_handed}
+use Rattle.wu_store.proofs.AskLemmas.{asked_all, asks_none, fault_handed, fault_read, match_handed, never_broken, nothing_handed, question, read_handed, read_told, reads_handed, reads_also}
 use Rattle.wu_store.proofs.ChangeLemmas.{sent_number}
 use Rattle.wu_store.proofs.SelectTexts.{instances_asked, instances_fits}
 use Rattle.wu_store.proofs.InstanceAnswers as answers
@@ -49,10 +49,5 @@ returns g c =
     (λ rows h world s. answers.instances_found (state g.S.Store c.args.conn.now) (state g.S.Store c.query.new.conn) world s c.args.workunit rows h) (Ok c.in_ok-rows.rows) q.asks q.opens q.shows q.fails q.told in
     record {
       stored = instances_stored _ r reads;
-      reads = record {
-        asks = asks_row g.S.Store _ _ c.in_ok-rows.rows r reads.refused it.reads.asks;
-        fault = fault_read r reads.refused;
-        found = λ clean world stands. instances_found c.args.workunit world _ (c.deref.ensures.value ∙ it.reads.found clean world stands) r reads;
-        unrefused = λ clean world stands has limit. instances_read c.args.workunit world _ (c.deref.ensures.value ∙ it.reads.found clean world stands) r reads has.1;
-      };
+      reads = reads_also g.S.Store _ _ c.in_ok-rows.rows r (never_broken r reads.refused) (fault_read r reads.refused) it.reads (λ world stands found. instances_found c.args.workunit world _ (c.deref.ensures.value ∙ found) r reads) (λ world stands found has. instances_read c.args.workunit world _ (c.deref.ensures.value ∙ found) r reads has.1);
     }

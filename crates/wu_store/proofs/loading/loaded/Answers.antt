@@ -2,7 +2,7 @@ use Rattle.wu_schema.proofs.Words.{Err, NotAProject, None, Ok, Some, ap, inr, re
 use Rattle.std.proofs.Common.{option_map, rules}
 use Rattle.std.proofs.lemmas.Bool.{iff_false}
 use Rattle.wu_store.specs.Loading.{classless}
-use Rattle.wu_store.proofs.AskLemmas.{asks_made, asks_none, asks_row, handed_on, never_err, nothing_handed, reads_handed}
+use Rattle.wu_store.proofs.AskLemmas.{asks_none, handed_on, never_err, nothing_handed, reads_handed, reads_made, reads_also}
 use Rattle.wu_store.proofs.LoadLemmas.{instances_can, none_there, row_read, some_there, well_formed, whole_can, whole_found}
 use Rattle.wu_store.proofs.loading.loaded.Goals as goal
 
@@ -41,26 +41,16 @@ returns-in_err-workunit-2 g c =
 pub returns-then-has_its_instances : goal.returns-then-has_its_instances
 returns-then-has_its_instances g c = record {
   formed = well_formed c.in-Some.row c.in_ok-workunit.workunit _ c.in_ok-workunit.ensures c.in_ok-workunit-2.ensures.stored (c.has_its_instances.ensures.0 c.if-has_its_instances.true);
-  reads = record {
-    asks = asks_made g.S.Store _ _ c.in_ok-workunit-2.field-0 _ (never_err _) c.in_ok-workunit-2.ensures.reads.asks;
-    fault = tt;
-    found = λ clean world stands found of.
-        let it = some_there c.args.row c.in-Some.row c.in-Some.is found world of in
-        ap (λ w. Some w) (whole_found c.in-Some.row world it.0 it.2 c.in_ok-workunit.workunit _ c.in_ok-workunit.ensures (c.in_ok-workunit-2.ensures.reads.found clean world stands)) ∙ ap (option_map classless) (sym it.1);
-    unrefused = λ clean world stands can limit. tt;
-  };
+  reads = reads_made g.S.Store _ _ c.in_ok-workunit-2.field-0 _ c.in_ok-workunit-2.ensures.reads (λ world stands told found of.
+      let it = some_there c.args.row c.in-Some.row c.in-Some.is found world of in
+      ap (λ w. Some w) (whole_found c.in-Some.row world it.0 it.2 c.in_ok-workunit.workunit _ c.in_ok-workunit.ensures (told)) ∙ ap (option_map classless) (sym it.1));
 }
 
 pub returns : goal.returns
 returns g c = record {
   formed = tt;
-  reads = record {
-    asks = asks_row g.S.Store _ _ c.in_ok-workunit-2.field-0 (Err NotAProject) (inr refl) c.in_ok-workunit-2.ensures.reads.asks;
-    fault = inr (inr refl);
-    found = λ clean world stands found of. inr (inr refl);
-    unrefused = λ clean world stands can limit refused.
-        let it = some_there c.args.row c.in-Some.row c.in-Some.is can.0 world can.1 in
-        let whole = whole_can c.in-Some.row world it.0 it.2 c.in_ok-workunit.workunit _ c.in_ok-workunit.ensures (c.in_ok-workunit-2.ensures.reads.found clean world stands) (rw it.1 at can.2) in
-        absurd (iff_false c.has_its_instances.ensures c.if-has_its_instances.false whole);
-  };
+  reads = reads_also g.S.Store _ _ c.in_ok-workunit-2.field-0 (Err NotAProject) (λ is. absurd cc) (inr (inr refl)) c.in_ok-workunit-2.ensures.reads (λ world stands told found of. inr (inr refl)) (λ world stands found can refused.
+      let it = some_there c.args.row c.in-Some.row c.in-Some.is can.0 world can.1 in
+      let whole = whole_can c.in-Some.row world it.0 it.2 c.in_ok-workunit.workunit _ c.in_ok-workunit.ensures (found) (rw it.1 at can.2) in
+      absurd (iff_false c.has_its_instances.ensures c.if-has_its_instances.false whole));
 }

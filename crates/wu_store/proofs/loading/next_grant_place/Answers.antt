@@ -1,7 +1,7 @@
 use Rattle.wu_schema.proofs.Words.{Err, Ok, [], refl, state}
 use Rattle.wu_schema.proofs.Parts.{Grants}
 use Rattle.wu_store.specs.Answers.{last_grant}
-use Rattle.wu_store.proofs.AskLemmas.{asked_row, asks_row, fault_read, nothing_handed, opens_handed, opens_made, reads_handed}
+use Rattle.wu_store.proofs.AskLemmas.{asked_row, fault_read, nothing_handed, opens_handed, opens_made, reads_handed, reads_also, never_broken}
 use Rattle.wu_store.proofs.LastLemmas.{grant_text, grant_fits, grant_found, last_question}
 use Rattle.wu_store.proofs.LoadLemmas.{place_known, place_read}
 use Rattle.wu_store.proofs.loading.next_grant_place.Goals as goal
@@ -31,10 +31,5 @@ returns g c =
     record {
       within = c.place_behind.ensures.within;
       opens = opens_made g.S.Store c.ask_row.new.conn r it.opens;
-      reads = record {
-        asks = asks_row g.S.Store _ _ last r reads.refused it.reads.asks;
-        fault = fault_read r reads.refused;
-        found = λ clean world stands. place_known world.grants last r (it.reads.found clean world stands) reads;
-        unrefused = λ clean world stands any limit. place_read world.grants last r (it.reads.found clean world stands) reads;
-      };
+      reads = reads_also g.S.Store _ _ last r (never_broken r reads.refused) (fault_read r reads.refused) it.reads (λ world stands found. place_known world.grants last r found reads) (λ world stands found any. place_read world.grants last r found reads);
     }

@@ -1,7 +1,7 @@
 use Rattle.wu_schema.proofs.Words.{Err, Ok, Some, [], inr, refl, state, sym, ◌∙◌, ◌≡◌}
 use Rattle.wu_schema.proofs.Parts.{Project}
 use Rattle.wu_core.specs.declared.fault.Fault.TheVariants.{NotAProject}
-use Rattle.wu_store.proofs.AskLemmas.{asked_row, asks_row, fault_read, nothing_handed, opens_handed, opens_made, question, reads_handed}
+use Rattle.wu_store.proofs.AskLemmas.{asked_row, fault_read, nothing_handed, opens_handed, opens_made, question, reads_handed, reads_also, never_broken}
 use Rattle.wu_store.specs.Answers.{next_row}
 use Rattle.wu_store.proofs.ReadAnswers.{next_found}
 use Rattle.wu_store.proofs.SelectTexts.{next_asked, next_fits}
@@ -34,16 +34,11 @@ returns-in-Some g c =
     record {
       within = next_within c.in-Some.row r reads;
       opens = opens_made g.S.Store c.ask_row.new.conn r asked.opens;
-      reads = record {
-        asks = asks_row g.S.Store _ _ row r reads.refused asked.reads.asks;
-        fault = fault_read r reads.refused;
-        found = λ clean world stands.
-            let row_is : c.in-Some.row ≡ next_row world = same_some (sym c.in-Some.is ∙ asked.reads.found clean world stands) in
-            next_is world.next_number c.in-Some.row r row_is reads;
-        unrefused = λ clean world stands has limit.
-            let row_is : c.in-Some.row ≡ next_row world = same_some (sym c.in-Some.is ∙ asked.reads.found clean world stands) in
-            never_unread _ _ c.in-Some.row r world.next_number reads has row_is;
-      };
+      reads = reads_also g.S.Store _ _ row r (never_broken r reads.refused) (fault_read r reads.refused) asked.reads (λ world stands found.
+          let row_is : c.in-Some.row ≡ next_row world = same_some (sym c.in-Some.is ∙ found) in
+          next_is world.next_number c.in-Some.row r row_is reads) (λ world stands found has.
+          let row_is : c.in-Some.row ≡ next_row world = same_some (sym c.in-Some.is ∙ found) in
+          never_unread _ _ c.in-Some.row r world.next_number reads has row_is);
     }
 
 pub returns-in-None : goal.returns-in-None
@@ -55,10 +50,5 @@ returns-in-None g c =
     record {
       within = tt;
       opens = λ clean. inr (asked.opens clean);
-      reads = record {
-        asks = asks_row g.S.Store _ _ row (Err NotAProject) (inr refl) asked.reads.asks;
-        fault = inr (inr refl);
-        found = λ clean world stands. inr (inr refl);
-        unrefused = λ clean world stands has limit. absurd (let no = sym c.in-None.is ∙ asked.reads.found clean world stands in cc);
-      };
+      reads = reads_also g.S.Store _ _ row (Err NotAProject) (λ is. absurd cc) (inr (inr refl)) asked.reads (λ world stands found. inr (inr refl)) (λ world stands found has refused. absurd (let no = sym c.in-None.is ∙ found in cc));
     }

@@ -1,8 +1,8 @@
-use Rattle.wu_schema.proofs.Words.{Err, HasCleanDisk, NotAProject, None, Ok, Refines, Some, arith, inr, refl, state, subst, sym, ◌∙◌, ◌≡◌}
+use Rattle.wu_schema.proofs.Words.{Err, HasCleanDisk, NotAProject, None, Refines, Some, arith, inr, refl, state, subst, sym, ◌∙◌, ◌≡◌}
 use Rattle.std.specs.Option.{IfSome}
 use Rattle.wu_core.specs.Formed.{IsWorkunit}
 use Rattle.wu_core.specs.Storable.{IsStorable}
-use Rattle.wu_store.proofs.AskLemmas.{asks_handed, asks_made, asks_row, asks_stands, asks_then, fault_handed, handed_on, match_handed, never_err, nothing_handed, reads_handed}
+use Rattle.wu_store.proofs.AskLemmas.{asks_handed, asks_made, asks_row, asks_stands, asks_then, fault_handed, handed_on, match_handed, never_err, nothing_handed, reads_handed, reads_made}
 use Rattle.wu_store.proofs.LoadLemmas.{nothing_back, back_there, class_back, class_can, class_told, formed_classed}
 use Rattle.wu_store.proofs.loading.whole.Goals as goal
 
@@ -20,15 +20,7 @@ returns-in_err-workunit g c =
 pub returns-in_default : goal.returns-in_default
 returns-in_default g c =
     let it = c.in_ok-workunit.ensures in
-    record {
-      formed = tt;
-      reads = record {
-        asks = asks_made g.S.Store _ _ c.in_ok-workunit.field-0 (Ok None) (never_err None) it.reads.asks;
-        fault = tt;
-        found = λ clean world stands known found of. nothing_back found (sym c.in_default.is ∙ it.reads.found clean world stands found of);
-        unrefused = λ clean world stands can limit. tt;
-      };
-    }
+    record { formed = tt; reads = reads_made g.S.Store _ _ c.in_ok-workunit.field-0 None it.reads (λ world stands told known found of. nothing_back found (sym c.in_default.is ∙ told found of)) }
 
 pub returns-in_err-class : goal.returns-in_err-class
 returns-in_err-class g c =
