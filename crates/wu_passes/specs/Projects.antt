@@ -1,14 +1,15 @@
 -- A project as its callers know it: what its connection shows, whether its session has ended, and which older version
 -- it is over.
-use Rattle.std.specs.Prelude.{◌≡◌, ◌⊎◌, ◌≤◌, ℕ, Bool, true, false, if◌then◌else◌, List, IfErr, IfSome, IsErrAnd, IsSome, IsTrue, MatchResult, None, OnOk, Option, Result, Err, Vec, ⊤}
+use Rattle.std.specs.Prelude.{◌≡◌, ◌⊎◌, ◌≤◌, ℕ, Bool, true, false, if◌then◌else◌, List, IfErr, IfSome, IsErrAnd, IsSome, IsTrue, MatchResult, None, OnOk, Option, Result, Err, ◌≢◌}
+use Rattle.sqlite.specs.Effect.{Database}
 use Rattle.sqlite.specs.Held.{Held, state}
 use Rattle.sqlite.specs.State.{State, HasCleanDisk}
 use Rattle.sqlite.specs.Store.{Ghosts}
 use Rattle.wu_core.specs.declared.fault.Fault.{Fault}
-use Rattle.wu_core.specs.declared.fault.Fault.TheVariants.{BadLimit, Broken, Ended, OldSchema}
+use Rattle.wu_core.specs.declared.fault.Fault.TheVariants.{BadLimit, Broken, Ended, OldSchema, NotAProject}
 use Rattle.wu_core.specs.World.{World}
 use Rattle.wu_schema.specs.Calls.{HasBroken}
-use Rattle.wu_schema.specs.Faults.{IsFailure}
+use Rattle.wu_schema.specs.Faults.{IsFailure, IsStoreFault}
 use Rattle.wu_store.specs.declared.changes.Change.{Change}
 use Rattle.wu_machine.specs.declared.command.Answer.{Answer}
 use Rattle.wu_machine.specs.declared.command.Command.{Command}
@@ -19,14 +20,9 @@ use Rattle.wu_plans.specs.Planning.{NeverEnded, Plans, PlansFor, PlansProject}
 use Rattle.wu_machine.specs.Commands.{request_of}
 use Rattle.wu_machine.specs.Sound.{IsProject}
 use Rattle.wu_store.specs.Loading.{Asks, ServesUnlessFailed}
-use Rattle.wu_store.specs.Classes.{ForEachClassed, NotRefusedClass}
-use Rattle.wu_views.specs.Lines.{summary_of}
-use Rattle.wu_store.specs.StandsFor.{ForEachQueued, NotRefusedQueued, StandsFor}
-use Rattle.wu_store.specs.Reads.{FindsAt}
-use Rattle.wu_views.specs.Summaries.{CountsSummary, IsCountable, SumsSummary}
-use Rattle.wu_views.specs.Waiting.{FindsDueLines}
+use Rattle.wu_store.specs.StandsFor.{StandsFor}
+use Rattle.wu_views.specs.Summaries.{CountsSummary, SumsSummary}
 use Rattle.wu_views.specs.declared.lines.Summary.{Summary}
-use Rattle.wu_views.specs.declared.waiting.DueLine.{DueLine}
 use Rattle.wu_machine.specs.Requests.{Request}
 use Rattle.wu_passes.specs.Adopting.{KeepsAll, older_than_present}
 use Rattle.wu_passes.specs.Leaving.{RunsFrom}
@@ -269,23 +265,23 @@ pub record AnswersFirst {S T : Type 0} {g : Ghosts S} (old new : Project S g) (r
 abbrev pub WasOpenBefore : {S T E : Type 0} {g : Ghosts S} → Project S g → Project S g → Result T E → Type 0
 WasOpenBefore old new result = HasCleanDisk (state_of new) → OnOk result (IsTrue (state_of old).is_open)
 
--- The answer is the summary of each world with classes that the tables represent.
-abbrev pub Summarizes : {S : Type 0} {g : Ghosts S} → Project S g → Project S g → Result Summary Fault → Type 0
-Summarizes {S} {g} old new result = ForEachClassed g (connection_of old) (connection_of new) (FindsAt summary_of result)
+-- A question of a project, within its session. After the end of the session the answer is `Ended`, and over an older
+-- version `OldSchema`; nothing is touched then (`early`). Only `Broken` ends the session (`session`), and it only reads
+-- (`asks`). Over the present version the connection is open afterwards, except after `Memory` and `Broken` (`opens`), and
+-- a fault is one of the store (`fault`). It finds this of each world over which the tables stood (`found`). If that world
+-- can be read, and steps have no limit, `NotAProject` is not returned (`unrefused`).
+pub record Looks {S T : Type 0} {g : Ghosts S} (old new : Project S g) (result : Result T Fault) (Over : Database → World → Type 0) (Finds : Result T Fault → World → Type 0) (Can : World → Type 0) : Type 0 where
+  pub early : AnswersFirst old new result
+  pub session : KeepsAsking old new result
+  pub asks : AsksOn old new result
+  pub opens : IsSessionOpen old → IsPresentSession old → ServesOn new result
+  pub fault : IsSessionOpen old → IsPresentSession old → IfErr result IsStoreFault
+  pub found : HasCleanDisk (state_of new) → (world : World) → Over (state_of old).now world → Finds result world
+  pub unrefused :
+      IsSessionOpen old → HasCleanDisk (state_of new) → (world : World) → Over (state_of old).now world → Can world → IsUnlimited old
+      → IfErr result (λ fault. fault ≢ NotAProject)
 
 -- The numbers of the summary count each row of instances and of grants, whatever the tables represent.
 pub record CountsRows {S : Type 0} {g : Ghosts S} (old new : Project S g) (result : Result Summary Fault) : Type 0 where
   pub states : CountsSummary g (connection_of old) (connection_of new) result
   pub credit : SumsSummary g (connection_of old) (connection_of new) result
-
--- Over a represented world whose numbers can be read, the summary is not refused.
-abbrev pub SummarizesUnrefused : {S T : Type 0} {g : Ghosts S} → Project S g → Project S g → Result T Fault → Type 0
-SummarizesUnrefused {S} {T} {g} old new result = NotRefusedClass g (connection_of old) (connection_of new) result IsCountable
-
--- The lines are those of each world with classes that the tables and the queue represent.
-abbrev pub CountsDue : {S A : Type 0} {g : Ghosts S} → Project S g → Project S g → ℕ → Result (Vec DueLine A) Fault → Type 0
-CountsDue {S} {A} {g} old new now result = ForEachQueued g (connection_of old) (connection_of new) (FindsDueLines now result)
-
--- Over such a world, the lines are not refused.
-abbrev pub CountsDueUnrefused : {S T : Type 0} {g : Ghosts S} → Project S g → Project S g → Result T Fault → Type 0
-CountsDueUnrefused {S} {T} {g} old new result = NotRefusedQueued g (connection_of old) (connection_of new) result (λ _. ⊤)

@@ -20,9 +20,10 @@ WithClasses db world = KnowsClasses world × Refines db world
 abbrev pub WithQueue : Database → World → Type 0
 WithQueue db world = KnowsClasses world × StandsFor db world
 
--- A call that only reads, by any number of questions. It leaves all as it was (`asks`), and its fault is one of these
--- (`fault`). On a clean disk it finds this of each world over which the tables stood before it (`found`). If that world
--- can be read, and steps have no limit, `NotAProject` is not returned (`unrefused`).
+-- A call that only reads, by any number of questions. It begins no transaction and commits nothing, and except after
+-- `Memory` and `Broken` all is as before (`asks`). Its fault is one of these (`fault`). On a clean disk it finds this of
+-- each world over which the tables stood before it (`found`). If that world can be read, and steps have no limit,
+-- `NotAProject` is not returned (`unrefused`).
 pub record Reads {S T : Type 0} (g : Ghosts S) (old new : Held S) (result : Result T Fault) (Told : Fault → Type 0) (Over : Database → World → Type 0) (Finds : Result T Fault → World → Type 0) (Can : World → Type 0) : Type 0 where
   pub asks : Asks g old new result
   pub fault : IfErr result Told

@@ -1,13 +1,8 @@
 -- When a project's tables represent a world: the tables are what it holds, and from version 2 on the queue is too.
-use Rattle.std.specs.Prelude.{◌≡◌, ◌≢◌, ◌≤◌, ℕ, List, map, None, Result, IfErr}
+use Rattle.std.specs.Prelude.{◌≤◌, ℕ, List, map}
 use Rattle.sqlite.specs.Effect.{Database}
-use Rattle.sqlite.specs.Held.{Held, state}
-use Rattle.sqlite.specs.State.{HasCleanDisk}
-use Rattle.sqlite.specs.Store.{Ghosts}
 use Rattle.wu_core.specs.Limits.{queue_version}
 use Rattle.wu_core.specs.World.{World}
-use Rattle.wu_core.specs.declared.fault.Fault.{Fault}
-use Rattle.wu_core.specs.declared.fault.Fault.TheVariants.{NotAProject}
 use Rattle.wu_core.specs.declared.marks.Marks.{Marks}
 use Rattle.wu_core.specs.declared.workunit.Workunit.{Workunit}
 use Rattle.wu_rules.specs.Marks.{marks}
@@ -32,13 +27,3 @@ KnowsClasses world = IsClassedVersion world.version
 pub record StandsFor (db : Database) (world : World) : Type 0 where
   pub refines : Refines db world
   pub queue : IsQueued world → HasQueue db (marked world)
-
--- On a clean disk, this holds of each world with a queue and classes that the tables represent.
-abbrev pub ForEachQueued : {S : Type 0} → Ghosts S → Held S → Held S → (World → Type 0) → Type 0
-ForEachQueued g old new Is = HasCleanDisk (state g new) → (world : World) → KnowsClasses world → StandsFor (state g old).now world → Is world
-
--- Over such a world and without a limit on steps, no read is refused.
-abbrev pub NotRefusedQueued : {S T : Type 0} → Ghosts S → Held S → Held S → Result T Fault → (World → Type 0) → Type 0
-NotRefusedQueued g old new result Is =
-    HasCleanDisk (state g new) → (world : World) → KnowsClasses world → StandsFor (state g old).now world → Is world → old.step_limit ≡ None
-    → IfErr result (λ fault. fault ≢ NotAProject)

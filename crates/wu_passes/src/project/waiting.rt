@@ -1,7 +1,8 @@
 //! What waits for the passes of a project, within its session.
 
-ghost use Rattle.std.specs.Prelude.{IfErr};
-ghost use Rattle.wu_store.specs.Loading.{IsStoreFault};
+ghost use Rattle.std.specs.Prelude.{⊤};
+ghost use Rattle.wu_store.specs.Reads.{WithQueue};
+ghost use Rattle.wu_views.specs.Waiting.{FindsDueLines};
 
 use crate::project::Project;
 use sqlite::Alter;
@@ -10,7 +11,7 @@ use wu_core::{Fault, Moment};
 use wu_views::{DueLine, due_lines};
 
 impl<S: Alter> Project<S> {
-    ghost use Rattle.wu_passes.specs.Projects.{AnswersFirst, AsksOn, CountsDue, CountsDueUnrefused, IsPresentSession, IsSessionOpen, KeepsAsking, ServesOn};
+    ghost use Rattle.wu_passes.specs.Projects.{Looks};
 
     /// Returns for each pass how many workunits it would change at this moment, if it had no limit. A purge is taken to
     /// have the least age 0. It changes no table; `Broken` ends the session.
@@ -18,27 +19,9 @@ impl<S: Alter> Project<S> {
     /// `NotAProject` means that a row of the queue is invalid. Over an older version the answer is `OldSchema`, and
     /// nothing is read.
     pub fn due_lines(&mut self, alloc: Global, now: Moment) -> Result<Vec<DueLine>, Fault>
-        // After the end of a session the answer is `Ended`, and over an older version `OldSchema`.
-        // Nothing is touched then.
-        ensures early { AnswersFirst self.old self.new result }
-        // Only `Broken` ends the session, and it always does; the session stays over its version.
-        ensures session { KeepsAsking self.old self.new result }
-        // It only reads: nothing is committed or changed, and `Broken` means a failed disk or a
-        // connection that was not open.
-        ensures asks { AsksOn self.old self.new result }
-        // Over the present version the connection is open afterwards, except after `Memory` and
-        // `Broken`.
-        ensures opens { IsSessionOpen self.old → IsPresentSession self.old
-            → ServesOn self.new result }
-        // Over the present version a fault is `Memory`, `Broken` or `NotAProject`.
-        ensures fault { IsSessionOpen self.old → IsPresentSession self.old
-            → IfErr result IsStoreFault }
-        // Without a limit on steps, over a world with classes and its queue, `NotAProject` is not
-        // returned.
-        ensures unrefused { IsSessionOpen self.old → CountsDueUnrefused self.old self.new result }
         // With Ok each pass has its line, in each world with classes that the tables and the queue
-        // represent.
-        ensures due { CountsDue self.old self.new now result }
+        // represent. Over such a world it is not refused.
+        ensures { Looks self.old self.new result WithQueue (FindsDueLines now) (λ _. ⊤) }
     {
         if self.has_ended {
             return Err(Fault::Ended);

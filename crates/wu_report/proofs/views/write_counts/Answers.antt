@@ -16,12 +16,12 @@ returns-clause-written g c = record {
   reads = search rules;
   opens = search rules;
   text = λ going clean world knows shows.
-      let present = present_done c.args.project.now c.summary.new.self c.in_ok-summary.summary going c.in_ok-summary.ensures.early in
-      let is = c.in_ok-summary.ensures.summary clean world knows (shows ((c.summary.ensures.asks.back clean).was_open (c.in_ok-summary.ensures.opens going present clean))).0.refines in
+      let present = present_done c.args.project.now c.summary.new.self c.in_ok-summary.summary going c.in_ok-summary.ensures.looks.early in
+      let is = c.in_ok-summary.ensures.looks.found clean world (knows, (shows ((c.summary.ensures.looks.asks.back clean).was_open (c.in_ok-summary.ensures.looks.opens going present clean))).0.refines) in
       subst (λ summary. WritesTo g.W.Write.contents c.args.out.now c.write_summary.new.out (summary_lines summary) c.write_summary.result) is c.write_summary.ensures.bytes;
   cut = λ going clean world knows shows.
-      let present = present_done c.args.project.now c.summary.new.self c.in_ok-summary.summary going c.in_ok-summary.ensures.early in
-      let is = c.in_ok-summary.ensures.summary clean world knows (shows ((c.summary.ensures.asks.back clean).was_open (c.in_ok-summary.ensures.opens going present clean))).0.refines in
+      let present = present_done c.args.project.now c.summary.new.self c.in_ok-summary.summary going c.in_ok-summary.ensures.looks.early in
+      let is = c.in_ok-summary.ensures.looks.found clean world (knows, (shows ((c.summary.ensures.looks.asks.back clean).was_open (c.in_ok-summary.ensures.looks.opens going present clean))).0.refines) in
       subst (λ summary. CutsOutput (g.W.Write.contents c.args.out.now) (g.W.Write.contents c.write_summary.new.out) (summary_lines summary) c.write_summary.result) is
       (outputs_cut _ _ _ c.write_summary.result c.write_summary.ensures.cut);
   fault = search rules;
@@ -37,14 +37,14 @@ returns-in_err-summary-clause-written g c = record {
   text = λ going clean world knows shows. Writes-failed _ _ _ c.from_residual.result c.from_residual.ensures.0 (AppendsFront-nothing _ _);
   cut = λ going clean world knows shows.
       other_fault _ _ _ c.from_residual.result c.in_err-summary.field-0.0 c.from_residual.ensures.1 (λ is.
-      let present = present_output c.args.project.now c.summary.new.self c.in_err-summary.field-0.0 going c.in_err-summary.ensures.early is in
-      never_output c.in_err-summary.field-0.0 (c.in_err-summary.ensures.fault going present) is);
+      let present = present_output c.args.project.now c.summary.new.self c.in_err-summary.field-0.0 going c.in_err-summary.ensures.looks.early is in
+      never_output c.in_err-summary.field-0.0 (c.in_err-summary.ensures.looks.fault going present) is);
   fault = search rules;
   unrefused = λ going clean unlimited world knows can shows.
       handed_on c.from_residual.result c.in_err-summary.field-0.0 c.from_residual.ensures.1 (λ refused.
-      let present = present_answer c.args.project.now c.summary.new.self c.in_err-summary.field-0.0 going c.in_err-summary.ensures.early refused in
-      let still = refused_open (state_of c.summary.new.self) c.in_err-summary.field-0.0 refused (c.in_err-summary.ensures.opens going present clean) in
-      c.in_err-summary.ensures.unrefused going clean world knows (shows ((c.summary.ensures.asks.back clean).was_open still)).0.refines can unlimited refused);
+      let present = present_answer c.args.project.now c.summary.new.self c.in_err-summary.field-0.0 going c.in_err-summary.ensures.looks.early refused in
+      let still = refused_open (state_of c.summary.new.self) c.in_err-summary.field-0.0 refused (c.in_err-summary.ensures.looks.opens going present clean) in
+      c.in_err-summary.ensures.looks.unrefused going clean world (knows, (shows ((c.summary.ensures.looks.asks.back clean).was_open still)).0.refines) can unlimited refused);
   broke = search rules;
 }
 

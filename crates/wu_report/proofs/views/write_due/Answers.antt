@@ -17,11 +17,11 @@ returns g c = record {
   opens = search rules;
   text = λ going clean world knows shows.
       let present = present_done c.args.project.now c.due_lines.new.self c.in_ok-lines.lines going c.in_ok-lines.ensures.early in
-      let is = c.in_ok-lines.ensures.due clean world knows (shows ((c.due_lines.ensures.asks.back clean).was_open (c.in_ok-lines.ensures.opens going present clean))).0 in
+      let is = c.in_ok-lines.ensures.found clean world (knows, (shows ((c.due_lines.ensures.asks.back clean).was_open (c.in_ok-lines.ensures.opens going present clean))).0) in
       subst (λ lines. WritesTo g.W.Write.contents c.args.out.now c.write_all.new.out (flat_map due_line lines) c.write_all.result) (c.as_slice.ensures.value ∙ is) c.write_all.ensures.bytes;
   cut = λ going clean world knows shows.
       let present = present_done c.args.project.now c.due_lines.new.self c.in_ok-lines.lines going c.in_ok-lines.ensures.early in
-      let is = c.in_ok-lines.ensures.due clean world knows (shows ((c.due_lines.ensures.asks.back clean).was_open (c.in_ok-lines.ensures.opens going present clean))).0 in
+      let is = c.in_ok-lines.ensures.found clean world (knows, (shows ((c.due_lines.ensures.asks.back clean).was_open (c.in_ok-lines.ensures.opens going present clean))).0) in
       subst (λ lines. CutsOutput (g.W.Write.contents c.args.out.now) (g.W.Write.contents c.write_all.new.out) (flat_map due_line lines) c.write_all.result) (c.as_slice.ensures.value ∙ is)
       (outputs_cut (g.W.Write.contents c.args.out.now) (g.W.Write.contents c.write_all.new.out) (flat_map due_line c.as_slice.result.now) c.write_all.result c.write_all.ensures.cut);
   fault = search rules;
@@ -44,6 +44,6 @@ returns-in_err-lines g c = record {
       handed_on c.from_residual.result c.in_err-lines.field-0.0 c.from_residual.ensures.1 (λ refused.
       let present = present_answer c.args.project.now c.due_lines.new.self c.in_err-lines.field-0.0 going c.in_err-lines.ensures.early refused in
       let still = refused_open (state_of c.due_lines.new.self) c.in_err-lines.field-0.0 refused (c.in_err-lines.ensures.opens going present clean) in
-      c.in_err-lines.ensures.unrefused going clean world knows (shows ((c.due_lines.ensures.asks.back clean).was_open still)).0 can unlimited refused);
+      c.in_err-lines.ensures.unrefused going clean world (knows, (shows ((c.due_lines.ensures.asks.back clean).was_open still)).0) can unlimited refused);
   broke = search rules;
 }
