@@ -1,6 +1,6 @@
 //! The first workunit, grant, archived row, import or class of a host that may not be in a world.
 
-ghost use Rattle.std.specs.Prelude.{◌≡◌, All};
+ghost use Rattle.std.specs.Prelude.{All};
 ghost use Rattle.wu_core.specs.Classes.{IsClassed};
 ghost use Rattle.wu_core.specs.Formed.{IsWorkunit};
 ghost use Rattle.wu_core.specs.Storable.{IsName, IsStorable, IsStoredArchived};

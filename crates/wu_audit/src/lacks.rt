@@ -1,6 +1,6 @@
 //! The first workunit without a grant or an archived row that it needs, or with the name of an archived one.
 
-ghost use Rattle.std.specs.Prelude.{◌≡◌, ◌↔◌, ◌≤◌, ◌<◌, IsTrue, IfOk, All};
+ghost use Rattle.std.specs.Prelude.{◌≡◌, ◌↔◌, ◌<◌, IsTrue, IfOk};
 ghost use Rattle.std.specs.HashSet.{contains};
 ghost use Rattle.std.specs.Set.{is_member};
 ghost use Rattle.wu_audit.specs.Against.{FirstAgainst};

@@ -14,6 +14,7 @@ use wu_schema::{check_version, version_of};
 pub fn known_version<S: Alter>(conn: &mut Connection<S>) -> Result<u64, Fault>
     // The connection is open afterwards, except after `Memory` and `Broken`.
     ensures opens { ServesUnlessFailed S.Store conn.new result }
+    // It only reads, and never answers `Ended`.
     // The version is that of each world that the tables represent.
     // Without a limit on steps, over a world that commands run over, `NotAProject` is not returned.
     ensures reads { PlansWorld S.Store conn.old conn.new result TellsVersion IsProject }

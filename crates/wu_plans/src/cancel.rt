@@ -1,6 +1,6 @@
 //! Giving a workunit up: what it answers and what it changes, before anything is changed.
 
-ghost use Rattle.std.specs.Prelude.{◌≡◌, IfErr, IfOk};
+ghost use Rattle.std.specs.Prelude.{IfErr, IfOk};
 ghost use Rattle.wu_plans.specs.Planning.{IsCancelPlan, IsPresentProject, PlansNow, RefusesCancel, PlansWorld};
 ghost use Rattle.wu_machine.specs.Requests.{AskCancel};
 ghost use Rattle.wu_store.specs.Loading.{ServesUnlessFailed};
@@ -41,6 +41,7 @@ pub fn plan_cancel<'a, S: Alter>(
 ) -> Result<Plan<'a>, Fault>
     // The connection is open afterwards, except after `Memory` and `Broken`.
     ensures opens { ServesUnlessFailed S.Store conn.new result }
+    // It only reads, and never answers `Ended`.
     // The plan gives an undecided workunit up; another one, or an unknown name, is refused as the
     // machine does; or a fault of the store.
     // Over a project of the present version, with no limit on steps, no read is refused.

@@ -53,6 +53,7 @@ pub fn plan_classes<'a, S: Alter>(
 ) -> Result<Plan<'a>, Fault>
     // The connection is open afterwards, except after `Memory` and `Broken`.
     ensures opens { ServesUnlessFailed S.Store conn.new result }
+    // It only reads, and never answers `Ended`.
     // The plan answers the machine's reply and makes the machine's step; or it is the machine's
     // refusal, or a fault of the store.
     // Over a project of the present version, with no limit on steps, no read is refused.

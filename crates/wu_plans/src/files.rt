@@ -130,6 +130,7 @@ pub fn plan_sent<'a, S: Alter>(
 ) -> Result<Plan<'a>, Fault>
     // The connection is open afterwards, except after `Memory` and `Broken`.
     ensures opens { ServesUnlessFailed S.Store conn.new result }
+    // It only reads, and never answers `Ended`.
     // The plan answers the machine's reply and makes its step, skipped rows changing nothing; or
     // the machine's refusal, or a fault of the store.
     // Over a project of the present version, with no limit on steps, no read is refused.
@@ -157,6 +158,7 @@ pub fn plan_reported<'a, S: Alter>(
 ) -> Result<Plan<'a>, Fault>
     // The connection is open afterwards, except after `Memory` and `Broken`.
     ensures opens { ServesUnlessFailed S.Store conn.new result }
+    // It only reads, and never answers `Ended`.
     // The plan answers the machine's reply and makes its step, skipped rows changing nothing; or
     // the machine's refusal, or a fault of the store.
     // Over a project of the present version, with no limit on steps, no read is refused.

@@ -412,6 +412,7 @@ pub fn plan_pass<'a, S: Alter>(
     requires { is_limit_right ask.now.pass ask.now.limit ask.now.min_age ≡ true }
     // The connection is open afterwards, except after `Memory` and `Broken`.
     ensures opens { ServesUnlessFailed S.Store conn.new result }
+    // It only reads, and never answers `Ended`.
     // The plan answers the number of its workunits and makes the machine's step, each image in its
     // place; or a fault of the store.
     // Over a project of the present version, with no limit on steps, no read is refused.

@@ -18,7 +18,7 @@ use wu_store::{Change, class_of};
 
 /// A row of a file on an instance of one workunit.
 pub trait FileRow: Drop {
-    ghost use Rattle.std.specs.Prelude.{◌≡◌, ◌≢◌, ◌≤◌, ℕ, List, IfErr};
+    ghost use Rattle.std.specs.Prelude.{◌≡◌, ◌≢◌, ◌≤◌, ℕ, List};
     ghost use Rattle.wu_core.specs.Classes.{AreClassed};
     ghost use Rattle.wu_core.specs.declared.workunit.HostClass.{HostClass};
     ghost use Rattle.wu_machine.specs.FileRows.{KeepsIdentity, Rule, unknown};
@@ -37,6 +37,7 @@ pub trait FileRow: Drop {
 
     /// Reads from the tables the class on which the verdict on the row depends.
     fn find_class<S: Alter>(&self, conn: &mut Connection<S>) -> Result<u32, Fault>
+        // It only reads, and a fault is `Memory`, `Broken` or `NotAProject`.
         // For a send the class is that of its host in the world; a report needs none, and gets 0.
         // Over a world whose classes can be read, with no limit on steps, no read is refused.
         ensures { ReadsClassed S.Store conn.old conn.new result

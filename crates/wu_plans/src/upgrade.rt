@@ -21,6 +21,7 @@ pub fn plan_upgrade<'a, S: Alter>(
 ) -> Result<Plan<'a>, Fault>
     // An open connection stays open, except after `Memory` and `Broken`.
     ensures opens { StaysUnlessFailed S.Store conn.old conn.new result }
+    // It only reads, and never answers `Ended`.
     // The plan answers this version and the present one, at which the world then is; at the present
     // version it changes nothing.
     // Over a project of this version, with no limit on steps, no read is refused.

@@ -1,12 +1,12 @@
 //! The statements of classes, and the queries for them, each text in one function.
 
-ghost use Rattle.std.specs.Prelude.{◌≡◌, ◌<◌, ◌^◌, IfErr};
+ghost use Rattle.std.specs.Prelude.{◌<◌, ◌^◌};
 ghost use Rattle.wu_schema.specs.Calls.{Does, StatementFrame, TransactionFrame};
 ghost use Rattle.wu_schema.specs.Made.{host_class_table, workunit_class_table};
 ghost use Rattle.wu_schema.specs.Others.{Spares, SparesBeside};
 ghost use Rattle.wu_store.specs.Classes.{AddsClass, ChangesClasses, FillsClasses, LoadsClass, LoadsHostClass, PutsClass, UpgradesClasses, class_named, class_numbered, with_host_class, with_set_class};
 ghost use Rattle.wu_store.specs.Reads.{FindsAt, ReadsClassed};
-ghost use Rattle.wu_store.specs.Loading.{Asks, IsStoreFault, ServesUnlessFailed};
+ghost use Rattle.wu_store.specs.Loading.{ServesUnlessFailed};
 
 use crate::statements::{ask_row, key_of, set_version, signed};
 use crate::texts::{
@@ -126,6 +126,7 @@ pub fn class_of_workunit<S: Alter>(
     // For a number below 2^63 the connection is open afterwards, except after `Memory` and
     // `Broken`.
     ensures opens { number < 2 ^ 63 → ServesUnlessFailed S.Store conn.new result }
+    // It only reads, and a fault is `Memory`, `Broken` or `NotAProject`.
     // In each represented world with classes it is the class of the workunit of this number, or
     // `None` if there is none.
     // Over a represented world with classes, that class in range, with no limit on steps and a
@@ -145,6 +146,7 @@ pub fn class_of_workunit<S: Alter>(
 pub fn class_of<S: Alter>(conn: &mut Connection<S>, host: &Name) -> Result<u32, Fault>
     // The connection is open afterwards, except after `Memory` and `Broken`.
     ensures opens { ServesUnlessFailed S.Store conn.new result }
+    // It only reads, and a fault is `Memory`, `Broken` or `NotAProject`.
     // It is the class that the host has in each represented world with classes, 0 if no file named
     // it.
     // Over a represented world with classes, that class in range, with no limit on steps,

@@ -1,6 +1,6 @@
 //! The workunits that a pass is to change, found by the queue; and the marks by which it finds them, of all workunits.
 
-ghost use Rattle.std.specs.Prelude.{◌≡◌, ◌≤◌, ◌<◌, ◌+◌, ◌++◌, ◌-◌, ◌^◌, ◌∷◌, [], ⊤, false, None, length, All, IfErr, IfOk, IfSome};
+ghost use Rattle.std.specs.Prelude.{◌≡◌, ◌≤◌, ◌<◌, ◌+◌, ◌++◌, ◌-◌, ◌^◌, ◌∷◌, [], false, None, length, All, IfErr, IfOk, IfSome};
 ghost use Rattle.wu_core.specs.declared.fault.Fault.TheVariants.{Memory};
 ghost use Rattle.wu_core.specs.declared.marks.Marks.{Marks};
 ghost use Rattle.wu_rules.specs.Marks.{marks, selects};
@@ -27,6 +27,7 @@ pub(crate) fn first<S: Alter>(
 ) -> Result<Option<Workunit>, Fault>
     // The connection is open afterwards, except after `Memory` and `Broken`.
     ensures opens { ServesUnlessFailed S.Store conn.new result }
+    // It only reads, and a fault is `Memory`, `Broken` or `NotAProject`.
     // In each represented world without classes it is the workunit of the least number, or `None`
     // if there is none.
     // Over a represented world without classes, its workunits readable, with no limit on steps,
@@ -51,6 +52,7 @@ pub(crate) fn next_after<S: Alter>(
     // There are fewer 64-bit numbers from that of the answer on than from this one on, so a loop
     // over answers ends.
     ensures shrinks { IfOk result (λ next. numbers_left next < 2 ^ 64 - number) }
+    // It only reads, and a fault is `Memory`, `Broken` or `NotAProject`.
     // In each represented world without classes it is the first workunit above this number, or
     // `None` if there is none.
     // Over a represented world without classes, that workunit readable, with no limit on steps and
@@ -86,6 +88,7 @@ pub fn load_marks<S: Alter>(
 ) -> Result<Vec<(u64, Marks)>, Fault>
     // The connection is open afterwards, except after `Memory` and `Broken`.
     ensures opens { ServesUnlessFailed S.Store conn.new result }
+    // It only reads, and a fault is `Memory`, `Broken` or `NotAProject`.
     // In each represented world without classes these are the numbers of all workunits with their
     // marks, in order of number.
     // Over a represented world without classes, its workunits readable, with no limit on steps,
@@ -244,6 +247,7 @@ pub fn load_due<S: Alter>(
 ) -> Result<Vec<Workunit>, Fault>
     // For a limit below 2^63 the connection is open afterwards, except after `Memory` and `Broken`.
     ensures opens { limit < 2 ^ 63 → ServesUnlessFailed S.Store conn.new result }
+    // It only reads, and a fault is `Memory`, `Broken` or `NotAProject`.
     // In each represented world with classes and its queue these are the first workunits that the
     // pass changes, up to the limit.
     // Over a represented world with classes, its queue and readable workunits, with no limit on
@@ -272,6 +276,7 @@ pub fn due_numbers<S: Alter>(
 ) -> Result<Vec<u64>, Fault>
     // For a limit below 2^63 the connection is open afterwards, except after `Memory` and `Broken`.
     ensures opens { limit < 2 ^ 63 → ServesUnlessFailed S.Store conn.new result }
+    // It only reads, and a fault is `Memory`, `Broken` or `NotAProject`.
     // In each represented world with classes and its queue these are the numbers of the first
     // workunits that the pass changes, up to the limit.
     // Over a represented world with classes and its queue, with no limit on steps and a limit below

@@ -1,7 +1,7 @@
 //! What is loaded of a project, each by a query of its own: a workunit with its instances, an import, the next number,
 //! and the next places.
 
-ghost use Rattle.std.specs.Prelude.{◌<◌, ◌≤◌, ◌^◌, ◌↔◌, ⊤, map, IfErr, IfOk, IsTrue};
+ghost use Rattle.std.specs.Prelude.{◌<◌, ◌≤◌, ◌^◌, ⊤, map, IfOk};
 ghost use Rattle.wu_store.specs.Reads.{FindsAt, ReadsWorld};
 ghost use Rattle.wu_store.specs.Loading.{FindsAbove, FindsClassless, FindsEarlier, FindsEarly, FindsIfThere, FindsInstances, FindsNamed, FindsNumbered, LoadsInstances, LoadsImport, IsLoadableIfThere, IsPlaceToGive, IsWholeIfThere, KnowsArchivedPlace, KnowsGrantPlace, KnowsNext, LoadsAbove, LoadsEarly, LoadsFormed, LoadsNamed, LoadsNumbered, ServesUnlessFailed};
 ghost use Rattle.wu_schema.specs.Restoring.{Restores};
@@ -133,6 +133,7 @@ pub fn load<S: Alter>(
     ensures opens { number < 2 ^ 63 → ServesUnlessFailed S.Store conn.new result }
     // A workunit that is returned is well formed, whatever the tables hold.
     ensures formed { LoadsFormed result }
+    // It only reads, and a fault is `Memory`, `Broken` or `NotAProject`.
     // In each represented world with classes it is the workunit of this number with class and
     // instances, or `None` if there is none.
     // Over a represented world with classes, that workunit readable, with no limit on steps and a
@@ -157,6 +158,7 @@ pub fn load_early<S: Alter>(
     ensures opens { number < 2 ^ 63 → ServesUnlessFailed S.Store conn.new result }
     // A workunit that is returned is well formed, whatever the tables hold.
     ensures formed { LoadsFormed result }
+    // It only reads, and a fault is `Memory`, `Broken` or `NotAProject`.
     // In each represented world without classes it is the workunit of this number with its
     // instances, or `None` if there is none.
     // Over a represented world without classes, that workunit readable, with no limit on steps and
@@ -182,6 +184,7 @@ pub fn load_above<S: Alter>(
     ensures opens { number < 2 ^ 63 → ServesUnlessFailed S.Store conn.new result }
     // A workunit that is returned is well formed, whatever the tables hold.
     ensures formed { LoadsFormed result }
+    // It only reads, and a fault is `Memory`, `Broken` or `NotAProject`.
     // In each represented world without classes it is the first workunit above this number with its
     // instances, or `None` if there is none.
     // Over a represented world without classes, that workunit readable, with no limit on steps and
@@ -205,6 +208,7 @@ pub fn load_named<S: Alter>(
     ensures opens { ServesUnlessFailed S.Store conn.new result }
     // A workunit that is returned is well formed, whatever the tables hold.
     ensures formed { LoadsFormed result }
+    // It only reads, and a fault is `Memory`, `Broken` or `NotAProject`.
     // In each represented world with classes it is the workunit of this name with class and
     // instances, or `None` if there is none.
     // Over a represented world with classes, that workunit readable, with no limit on steps,
@@ -225,6 +229,7 @@ pub fn import_of<S: Alter>(
 ) -> Result<Option<StoredImport>, Fault>
     // The connection is open afterwards, except after `Memory` and `Broken`.
     ensures opens { ServesUnlessFailed S.Store conn.new result }
+    // It only reads, and a fault is `Memory`, `Broken` or `NotAProject`.
     // In each represented world it is the stored import of this kind and name: content and first
     // answer; or `None` if there is none.
     // Over a represented world where that import's verdicts are of its kind, with no limit on
@@ -246,6 +251,7 @@ pub fn next_number<S: Alter>(conn: &mut Connection<S>) -> Result<u64, Fault>
     ensures within { IfOk result IsNextNumber }
     // The connection is open afterwards, except after `Memory` and `Broken`.
     ensures opens { ServesUnlessFailed S.Store conn.new result }
+    // It only reads, and a fault is `Memory`, `Broken` or `NotAProject`.
     // It is the next number of each represented world.
     // Over a represented world with such a next number and no limit on steps, `NotAProject` is not
     // returned.
@@ -285,6 +291,7 @@ pub fn next_grant_place<S: Alter>(conn: &mut Connection<S>) -> Result<u64, Fault
     ensures within { IfOk result IsPlaceToGive }
     // The connection is open afterwards, except after `Memory` and `Broken`.
     ensures opens { ServesUnlessFailed S.Store conn.new result }
+    // It only reads, and a fault is `Memory`, `Broken` or `NotAProject`.
     // It is the place after all grants of each represented world, counted from 1.
     // Over a represented world, with no limit on steps, `NotAProject` is not returned.
     ensures reads { ReadsWorld S.Store conn.old conn.new result KnowsGrantPlace (λ _. ⊤) }
@@ -299,6 +306,7 @@ pub fn next_archived_place<S: Alter>(conn: &mut Connection<S>) -> Result<u64, Fa
     ensures within { IfOk result IsPlaceToGive }
     // The connection is open afterwards, except after `Memory` and `Broken`.
     ensures opens { ServesUnlessFailed S.Store conn.new result }
+    // It only reads, and a fault is `Memory`, `Broken` or `NotAProject`.
     // It is the place after all archived rows of each represented world, counted from 1.
     // Over a represented world, with no limit on steps, `NotAProject` is not returned.
     ensures reads { ReadsWorld S.Store conn.old conn.new result KnowsArchivedPlace (λ _. ⊤) }

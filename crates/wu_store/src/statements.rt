@@ -1,6 +1,6 @@
 //! The statements that change a project, and the queries of the passes, each text in one function.
 
-ghost use Rattle.std.specs.Prelude.{ℕ, ◌≡◌, ◌<◌, ◌≤◌, ◌^◌, ⊤, [], ◌∷◌, None, Some, pos, option_map, IfOk, IfErr, OnOk};
+ghost use Rattle.std.specs.Prelude.{◌≡◌, ◌<◌, ◌≤◌, ◌^◌, ⊤, [], ◌∷◌, None, Some, pos, option_map, IfOk, IfErr, OnOk};
 ghost use Rattle.sqlite.specs.Values.{bound};
 ghost use Rattle.wu_store.specs.Changing.{import_of_change};
 ghost use Rattle.wu_store.specs.Classes.{ChangesClasses, SetsVersion};
@@ -132,6 +132,7 @@ pub fn ask_row<S: Alter>(
 pub fn has_workunit<S: Alter>(conn: &mut Connection<S>, name: &Name) -> Result<bool, Fault>
     // The connection is open afterwards, except after `Memory` and `Broken`.
     ensures opens { ServesUnlessFailed S.Store conn.new result }
+    // It only reads, and a fault is `Memory`, `Broken` or `NotAProject`.
     // `true` means that each represented world has a workunit of this name, and `false` that none
     // has.
     // Over a represented world, with no limit on steps, `NotAProject` is not returned.
@@ -146,6 +147,7 @@ pub fn has_workunit<S: Alter>(conn: &mut Connection<S>, name: &Name) -> Result<b
 pub fn has_archived<S: Alter>(conn: &mut Connection<S>, name: &Name) -> Result<bool, Fault>
     // The connection is open afterwards, except after `Memory` and `Broken`.
     ensures opens { ServesUnlessFailed S.Store conn.new result }
+    // It only reads, and a fault is `Memory`, `Broken` or `NotAProject`.
     // `true` means that each represented world has an archived workunit of this name, and `false`
     // that none has.
     // Over a represented world, with no limit on steps, `NotAProject` is not returned.

@@ -236,6 +236,7 @@ pub fn summary<S: Alter>(conn: &mut Connection<S>) -> Result<Summary, Fault>
     // After `Ok` each row of `credit_grant`, whatever the tables hold, has a number, and is counted
     // and summed.
     ensures summed { SumsSummary S.Store conn.old conn.new result }
+    // It only reads, and a fault is `Memory`, `Broken` or `NotAProject`.
     // In each represented world with classes it is the summary of that world.
     // Over such a world with version, next number and all credit in range, with no limit on steps,
     // `NotAProject` is not returned.

@@ -1,7 +1,7 @@
 //! What waits for the passes of a project.
 
 ghost use Rattle.std.specs.Prelude.{⊤};
-ghost use Rattle.wu_views.specs.Waiting.{all_passes, due_count, FindsDueLines};
+ghost use Rattle.wu_views.specs.Waiting.{due_count, FindsDueLines};
 ghost use Rattle.wu_store.specs.Loading.{ServesUnlessFailed};
 ghost use Rattle.wu_store.specs.Reads.{FindsAt, ReadsQueued};
 
@@ -64,6 +64,7 @@ pub fn due_lines<S: Alter>(
 ) -> Result<Vec<DueLine>, Fault>
     // The connection is open afterwards, except after `Memory` and `Broken`.
     ensures opens { ServesUnlessFailed S.Store conn.new result }
+    // It only reads, and a fault is `Memory`, `Broken` or `NotAProject`.
     // In each represented world with classes and its queue each pass has its line, with the number
     // of the workunits that it changes.
     // Over such a world, with no limit on steps, `NotAProject` is not returned.
