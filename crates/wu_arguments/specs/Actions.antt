@@ -12,7 +12,7 @@ use Rattle.wu_machine.specs.declared.command.RowsFile.{RowsFile}
 use Rattle.wu_machine.specs.declared.command.Command.{Command}
 use Rattle.wu_machine.specs.declared.command.Command.TheVariants as command
 use Rattle.wu_machine.specs.Cycles.{cycle}
-use Rattle.wu_machine.specs.declared.view.View.TheVariants.{Status}
+use Rattle.wu_machine.specs.declared.view.View.TheVariants.{Import, Imports, Status}
 use Rattle.wu_rules.specs.declared.due.Pass.{Pass}
 use Rattle.wu_rules.specs.declared.due.Pass.TheVariants.{Transition, Validate, Assimilate, Delete, Purge}
 use Rattle.wu_arguments.specs.declared.action.Action.{Action}
@@ -78,6 +78,11 @@ pass_command Purge now limit min_age =
 abbrev pub all_of_cycle : List ℕ → ℕ → ℕ → Result Action Fault
 all_of_cycle text limit min_age = and_then (moment_of text) (λ now. Ok (Commands (cycle now limit min_age)))
 
+-- The view of all imports, or that of the imports of one name.
+abbrev pub imports : Option (List ℕ) → Result Action Fault
+imports None = Ok (Look Imports)
+imports (Some text) = and_then (name_of text) (λ name. Ok (Look (Import name)))
+
 abbrev pub status : List ℕ → Result Action Fault
 status text = and_then (moment_of text) (λ now. Ok (Look (Status now)))
 
@@ -88,6 +93,7 @@ prepared (asking.Pass pass now limit min_age) contents = and_then (pass_command 
 prepared (asking.Cycle now limit min_age) contents = all_of_cycle now limit min_age
 prepared (asking.Cancel workunit) contents = and_then (name_of workunit) (λ name. one (command.Cancel name))
 prepared (asking.Show view) contents = Ok (Look view)
+prepared (asking.Imports name) contents = imports name
 prepared (asking.Status now) contents = status now
 prepared asking.Upgrade contents = one command.Upgrade
 

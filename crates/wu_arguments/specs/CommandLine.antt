@@ -11,7 +11,7 @@ use Rattle.wu_core.specs.declared.import.ImportKind.TheVariants as kind
 use Rattle.wu_rules.specs.declared.due.Pass.{Pass as PassKind}
 use Rattle.wu_rules.specs.declared.due.Pass.TheVariants as pass
 use Rattle.wu_arguments.specs.declared.option.LineOption.{LineOption}
-use Rattle.wu_arguments.specs.declared.option.LineOption.TheVariants.{Database, Checked, To, Folder, Only, Name, Jobs, Template, File, Now, Limit, MinAge, Workunit, View, Topic, Detail, Kind, Linted}
+use Rattle.wu_arguments.specs.declared.option.LineOption.TheVariants.{Database, Checked, To, Folder, Only, Name, Imported, Jobs, Template, File, Now, Limit, MinAge, Workunit, View, Topic, Detail, Kind, Linted}
 use Rattle.wu_arguments.specs.declared.option.OptionValue.{OptionValue}
 use Rattle.wu_arguments.specs.declared.option.OptionValue.TheVariants.{Text, TextIfAny, Number, Word}
 use Rattle.wu_arguments.specs.declared.subcommand.Subcommand.{Subcommand}
@@ -25,6 +25,7 @@ option_name To = codes "to"
 option_name Folder = codes "to"
 option_name Only = codes "name"
 option_name Name = codes "name"
+option_name Imported = codes "name"
 option_name Jobs = codes "jobs"
 option_name Template = codes "template"
 option_name File = codes "file"
@@ -38,12 +39,13 @@ option_name Detail = codes "which"
 option_name Kind = codes "kind"
 option_name Linted = codes "file"
 
--- What follows an option on a line. A template, the name of one workunit and the words of `explain` may be left out, and
--- the words of `explain` stand alone.
+-- What follows an option on a line. A template, the name of what alone is asked for and the words of `explain` may be
+-- left out, and the words of `explain` stand alone.
 -- Limits and ages are whole numbers of 64 bits.
 abbrev pub value_of_option : LineOption → OptionValue
 value_of_option Template = TextIfAny
 value_of_option Only = TextIfAny
+value_of_option Imported = TextIfAny
 value_of_option Limit = Number
 value_of_option MinAge = Number
 value_of_option Topic = Word
@@ -116,7 +118,7 @@ options_of (Pass pass) = Database ∷ options_if (takes_moment pass) Now (Limit 
 options_of Cancel = Database ∷ Workunit ∷ []
 options_of Cycle = Database ∷ Now ∷ Limit ∷ MinAge ∷ []
 options_of Show = Database ∷ View ∷ []
-options_of Imports = Database ∷ []
+options_of Imports = Database ∷ Imported ∷ []
 options_of Status = Database ∷ Now ∷ []
 options_of Upgrade = Database ∷ []
 options_of Script = Database ∷ File ∷ []

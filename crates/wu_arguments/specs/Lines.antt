@@ -5,7 +5,7 @@ use Rattle.clap.specs.Words.{Row, first_of, one_of}
 use Rattle.wu_core.specs.declared.import.ImportKind.{ImportKind}
 use Rattle.wu_core.specs.declared.import.ImportKind.TheVariants.{Batch}
 use Rattle.wu_machine.specs.declared.view.View.{View}
-use Rattle.wu_machine.specs.declared.view.View.TheVariants.{Workunits, Results, Hosts, Archive, Summary, Classes, Imports}
+use Rattle.wu_machine.specs.declared.view.View.TheVariants.{Workunits, Results, Hosts, Archive, Summary, Classes}
 use Rattle.wu_arguments.specs.CommandLine.{file_option, option_name, takes_age, takes_moment}
 use Rattle.wu_arguments.specs.declared.option.LineOption.{LineOption}
 use Rattle.wu_arguments.specs.declared.option.LineOption.TheVariants as option
@@ -70,7 +70,7 @@ HasValues found subcommand.Cycle (asking.Cycle now limit min_age) =
     IsTextIn found option.Now now × IsNumberIn found option.Limit limit × IsNumberIn found option.MinAge min_age
 HasValues found subcommand.Cancel (asking.Cancel workunit) = IsTextIn found option.Workunit workunit
 HasValues found subcommand.Show (asking.Show view) = IsViewIn found (Some view)
-HasValues found subcommand.Imports (asking.Show view) = view ≡ Imports
+HasValues found subcommand.Imports (asking.Imports name) = value_in found option.Imported ≡ name
 HasValues found subcommand.Status (asking.Status now) = IsTextIn found option.Now now
 HasValues found subcommand.Upgrade asking.Upgrade = ⊤
 HasValues found _ _ = ⊥

@@ -6,7 +6,7 @@ ghost use Rattle.wu_core.specs.Reads.{IsOrWantsMemory, TellsRefusal};
 ghost use Rattle.wu_core.specs.Names.{name_of};
 ghost use Rattle.wu_feed.specs.Told.{both};
 ghost use Rattle.wu_arguments.specs.Contents.{Prepares};
-ghost use Rattle.wu_arguments.specs.Actions.{age_in, all_of_cycle, batch, bytes_of, content_of, moment_in, one, pass_command, prepared, prepared_import, rows_file, status};
+ghost use Rattle.wu_arguments.specs.Actions.{age_in, all_of_cycle, batch, bytes_of, content_of, imports, moment_in, one, pass_command, prepared, prepared_import, rows_file, status};
 
 use crate::files::ReadFile;
 use crate::line::{Asking, Line};
@@ -181,6 +181,17 @@ fn all_of_cycle(alloc: Global, now: &Word, limit: u64, min_age: u64) -> Result<A
     Ok(Action::Commands(Rows::from_vec(commands)))
 }
 
+/// Makes the action that looks at the imports: at all of them, or at those of one name.
+fn imports(alloc: Global, text: &Option<Word>) -> Result<Action, Fault>
+    ensures action { IsOrWantsMemory result (imports text.now) }
+    ensures told { TellsRefusal result (imports text.now) }
+{
+    match text {
+        Some(text) => Ok(Action::Look(View::Import(name(alloc, text)?))),
+        None => Ok(Action::Look(View::Imports)),
+    }
+}
+
 /// Makes the action that looks at what waits for the passes.
 fn status(now: &Word) -> Result<Action, Fault>
     ensures { result ≡ status now.now }
@@ -221,7 +232,8 @@ pub fn prepare(alloc: Global, line: &Line, contents: Vec<Option<Vec<u8>>>) -> Re
             let workunit = name(alloc, workunit)?;
             one(alloc, Command::Cancel { workunit })
         }
-        Asking::Show(view) => Ok(Action::Look(*view)),
+        Asking::Show(view) => Ok(Action::Look(view.copy()?)),
+        Asking::Imports { name } => imports(alloc, name),
         Asking::Status { now } => status(now),
         Asking::Upgrade => one(alloc, Command::Upgrade),
     }

@@ -36,6 +36,10 @@ pub enum Asking {
     },
     /// Prints a view.
     Show(View),
+    /// Lists the imports. Those of one name are printed with their skipped rows.
+    Imports {
+        name: Option<Word>,
+    },
     /// Prints what waits for the passes at a moment.
     Status {
         now: Word,
@@ -69,6 +73,7 @@ impl Drop for Asking {
                 workunit: _workunit,
             } => {}
             Asking::Show(_view) => {}
+            Asking::Imports { name: _name } => {}
             Asking::Status { now: _now } => {}
             Asking::Upgrade => {}
         }

@@ -56,6 +56,8 @@ pub enum LineOption {
     Only,
     /// The name of an import.
     Name,
+    /// The name of imports that are shown alone.
+    Imported,
     /// A file of jobs.
     Jobs,
     /// A file with the parameters of a batch's jobs.
@@ -126,6 +128,12 @@ impl LineOption {
                 value: OptionValue::Text,
                 value_name: "NAME",
                 help: "The name of the import: 1 to 64 letters, digits, '_', '.' or '-'. The same name and content again changes nothing",
+            },
+            LineOption::Imported => OptionForm {
+                name: "name",
+                value: OptionValue::TextIfAny,
+                value_name: "NAME",
+                help: "The imports of this name alone, each with its skipped rows; without it, all are listed",
             },
             LineOption::Jobs => OptionForm {
                 name: "jobs",

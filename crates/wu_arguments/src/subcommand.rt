@@ -164,14 +164,14 @@ impl Subcommand {
             },
             Subcommand::Imports => SubcommandForm {
                 name: "imports",
-                options: &[LineOption::Database],
-                about: "Print a line for each file that was imported, with its applied and skipped rows",
-                example: "Example: lintelthyme imports --db project.db",
+                options: &[LineOption::Database, LineOption::Imported],
+                about: "Print a line for each file that was imported, with how many rows were applied and skipped",
+                example: "Example: lintelthyme imports --db project.db --name s1",
             },
             Subcommand::Status => SubcommandForm {
                 name: "status",
                 options: &[LineOption::Database, LineOption::Now],
-                about: "Print for each pass how many workunits wait for it at a moment",
+                about: "Print what waits for each pass, what is undecided, and what is overdue at a moment",
                 example: "Example: lintelthyme status --db project.db --now 2026-03-01T12:00:00Z",
             },
             Subcommand::Upgrade => SubcommandForm {

@@ -17,7 +17,6 @@ use crate::word::Word;
 use clap::ArgMatches;
 use std::alloc::Global;
 use wu_core::ImportKind;
-use wu_machine::View;
 use wu_rules::Pass;
 
 /// Returns the option that names the file of such an import.
@@ -130,6 +129,16 @@ fn read_cancel(alloc: Global, found: &ArgMatches<'_>) -> Result<Asking, Usage>
     })
 }
 
+/// Reads the name of the imports that are shown, where one is given.
+fn read_imports(alloc: Global, found: &ArgMatches<'_>) -> Result<Asking, Usage>
+    ensures asking { IfOk result (HasValues (rows_of (found_of found.now)) Subcommand.Imports) }
+    ensures refused { IfErr result (IsLacking (rows_of (found_of found.now)) Subcommand.Imports) }
+{
+    Ok(Asking::Imports {
+        name: text_if_any(alloc, found, LineOption::Imported)?,
+    })
+}
+
 /// Reads the moment of what waits.
 fn read_status(alloc: Global, found: &ArgMatches<'_>) -> Result<Asking, Usage>
     ensures asking { IfOk result (HasValues (rows_of (found_of found.now)) Subcommand.Status) }
@@ -227,7 +236,7 @@ fn order_of(alloc: Global, subcommand: Subcommand, found: &ArgMatches<'_>) -> Re
         Subcommand::Cancel => line(alloc, read_cancel(alloc, found)?, found),
         Subcommand::Cycle => line(alloc, read_cycle(alloc, found)?, found),
         Subcommand::Show => line(alloc, Asking::Show(view(found)?), found),
-        Subcommand::Imports => line(alloc, Asking::Show(View::Imports), found),
+        Subcommand::Imports => line(alloc, read_imports(alloc, found)?, found),
         Subcommand::Status => line(alloc, read_status(alloc, found)?, found),
         Subcommand::Upgrade => line(alloc, Asking::Upgrade, found),
         Subcommand::Script => script(alloc, found),

@@ -65,6 +65,15 @@ module _ {S T : Type 0} (g : Ghosts S) (a b : Held S) (Is : Database → T → T
     answered = λ clean unlimited. tt;
   }
 
+  -- the same, with what the schema is afterwards
+  pub examines_seen : {U : Type 0} (x : T) (y : U) (Then : Database → U → Type 0) → ((state g b).now ≡ (state g a).now → Is (state g a).now x → Then (state g a).now y) → Examines g a b (Ok x) Is → Examines g a b (Ok y) Then
+  examines_seen x y Then made it = record {
+    asks = asks_made g a b x (Ok y) (never_broken y) it.asks;
+    says = λ clean legible. made (asks_now g a b x it.asks clean) (it.says clean legible);
+    fault = tt;
+    answered = λ clean unlimited. tt;
+  }
+
   -- a fault that is handed on
   pub examines_fault : {U : Type 0} (fault : Fault) (Then : Database → U → Type 0) → Examines g a b (Err fault) Is → (r : Result U Fault) → IsErrAnd r (λ other. other ≡ fault) → Examines g a b r Then
   examines_fault fault Then it (Ok y) same = absurd same

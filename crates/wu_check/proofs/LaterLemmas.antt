@@ -77,6 +77,11 @@ judged_later limit db world stands found tells what is unlimited has version tol
     let it = tells (subst (λ v. ¬ IsKnown v) same (unknown version later)) in
     same_some (sym is ∙ it) ∙ ap finding.Version (sym same)
 
+-- a world of a known version is of no later one
+pub known_world_later : (limit : Option ℕ) (db : Database) (world : World) → Refines db world → IsKnown world.version → (what : Finding) → TellsLater limit db what
+known_world_later limit db world stands known what unlimited has version told later =
+    absurd (unknown version later (subst IsKnown (sym (version_is db world stands has version told)) known))
+
 -- ---- another version than this program knows
 
 -- the row of a project that a world stands in has its version

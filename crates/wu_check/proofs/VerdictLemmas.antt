@@ -15,6 +15,7 @@ use Rattle.wu_store.specs.StandsFor.{IsQueued, marked}
 use Rattle.wu_store.specs.Worlds.{SameWorld}
 use Rattle.wu_store.proofs.SameWorld.{one_world}
 use Rattle.wu_tables.specs.Found.{HasQueueIn}
+use Rattle.wu_tables.specs.Upgrades.{HasFreeNames, TakesUpgradeName}
 use Rattle.sqlite_trees.specs.View.{IsShaped}
 use Rattle.sqlite_trees.specs.declared.store.Shape.TheVariants as shape
 use Rattle.wu_check.proofs.LaterLemmas.{other_stands}
@@ -22,7 +23,7 @@ use Rattle.wu_check.proofs.VersionLemmas.{fewer_tables, one_table}
 use Rattle.wu_check.specs.Queues.{HasMarks}
 use Rattle.wu_check.specs.Checking.{IsCounted, IsKnown, IsSoundProject}
 use Rattle.wu_check.specs.Examining.{IsLegible}
-use Rattle.wu_check.specs.Findings.{IsJudged, IsRightWorld, IsSoundAs, Says, SaysSound, SaysUnsound, SaysWhy, Tells}
+use Rattle.wu_check.specs.Findings.{HasTakenName, IsJudged, IsRightWorld, IsSoundAs, Says, SaysSound, SaysUnsound, SaysWhy, Tells, TellsOfSound}
 use Rattle.wu_check.specs.declared.finding.Finding.{Finding}
 use Rattle.wu_check.specs.declared.finding.Finding.TheVariants as finding
 use Rattle.wu_check.specs.declared.finding.Verdict.{Verdict}
@@ -69,7 +70,8 @@ module _ (any_order : SoundInAnyOrder) (db : Database) (p : IsSoundProject db) w
       let version = it.version in
       subst (λ (ws : List Workunit). HasQueue db (map (λ (w : Workunit). (w.number, marks w)) ws)) it.workunits (p.stands.queue (omega (arith, queued, version)))
 
-  refuted : (found : Finding) → Tells db found → ⊥
+  -- what is found of it is a name that something has, and nothing else
+  refuted : (found : Finding) → Tells db found → TellsOfSound db.schema p.world found
   refuted (finding.Tables misfit) told = told.none p.stands.refines.trees (fewer_tables p.world.version told.version (told.needed p.world p.stands.refines) db p.stands.refines.trees p.stands.refines.tables)
   refuted (finding.Row wrong) told = told.none p.world (readable p.world p.sound p.known.first) p.stands.refines
   refuted (finding.Version version) told = told.other (subst IsKnown (other_stands db version told p.world p.stands.refines) p.known)
@@ -81,6 +83,7 @@ module _ (any_order : SoundInAnyOrder) (db : Database) (p : IsSoundProject db) w
       let q = queue_of told.world told.refines told.queued in
       let rows = one_table db (codes "queue") (queue_at told.tree) (queue_at q.tree) told.queue.table q.table ∙ q.rows.same in
       told.differs.other (ap (λ (rs : List Row). slice_get rs (place - 1)) rows)
+  refuted (finding.Taken version name) told = (told.is ∙ sym (same told.project.world told.project.stands.refines).version, told.taken)
 
   -- its tables, and those of an older version, are in order
   arranged : (version : ℕ) → (IsClassedVersion version → IsClassedVersion p.world.version) → (trees : ProjectTrees) → HasTables version db.schema trees → AreArranged version db.trees trees
@@ -136,17 +139,22 @@ pub unsound_from : SoundInAnyOrder → (db : Database) (r : Result Verdict Fault
 unsound_from any_order db (Ok v) says = says_unsound any_order db v says
 unsound_from any_order db (Err fault) says = tt
 
--- a world that was judged right is that of a sound project, and is counted as it is
-pub judged_sound : (db : Database) (world : World) → Refines db world → IsJudged db world → (version workunits results : ℕ) → IsCounted world version workunits results → IsSoundAs db version workunits results
-judged_sound db world stands judged version workunits results counted = record {
-  project = record {
-    world = world;
-    stands = record { refines = stands; queue = judged.queue };
-    sound = judged.sound;
-    known = judged.known;
-  };
-  counted = counted;
+-- a world that was judged right is that of a sound project
+abbrev judged_project : (db : Database) (world : World) → Refines db world → IsJudged db world → IsSoundProject db
+judged_project db world stands judged = record {
+  world = world;
+  stands = record { refines = stands; queue = judged.queue };
+  sound = judged.sound;
+  known = judged.known;
 }
+
+-- something may have a name that its upgrade gives
+pub judged_taken : (db : Database) (world : World) → Refines db world → IsJudged db world → (version : ℕ) → version ≡ world.version → (name : List ℕ) → TakesUpgradeName db.schema version name → HasTakenName db version name
+judged_taken db world stands judged version is name taken = record { project = judged_project db world stands judged; is = is; taken = taken }
+
+-- and it is counted as it is
+pub judged_sound : (db : Database) (world : World) → Refines db world → IsJudged db world → (version workunits results : ℕ) → IsCounted world version workunits results → HasFreeNames db.schema version → IsSoundAs db version workunits results
+judged_sound db world stands judged version workunits results counted free = record { project = judged_project db world stands judged; counted = counted; free = free }
 
 -- ---- the queue of a world that is right but for it
 

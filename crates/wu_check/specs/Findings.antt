@@ -1,4 +1,4 @@
--- What is found to keep a database from holding a sound project.
+-- What is found to keep a database from holding a sound project, or from being upgraded.
 use Rattle.std.specs.Prelude.{◌≡◌, ◌⊎◌, ℕ, ◌+◌, ◌<◌, ⊤, List, map, Option, Some, None, slice_get}
 use Rattle.sqlite.specs.Effect.{Database}
 use Rattle.sqlite.specs.Schema.{Schema}
@@ -23,6 +23,7 @@ use Rattle.wu_schema.specs.Tables.{HasTables, IsClassedVersion, ProjectTrees}
 use Rattle.wu_schema.specs.Versions.{AreOfVersion, HasProject, HasVersion, rows_of_project, ShowsVersion}
 use Rattle.wu_store.specs.StandsFor.{IsQueued, marked}
 use Rattle.wu_tables.specs.Found as tables
+use Rattle.wu_tables.specs.Upgrades.{HasFreeNames, TakesUpgradeName}
 use Rattle.wu_tables.specs.declared.project.Misfit.{Misfit}
 use Rattle.wu_check.specs.Checking.{IsCounted, IsKnown, IsSoundProject}
 use Rattle.wu_check.specs.Versions.{IsReadVersion}
@@ -118,8 +119,16 @@ pub record HasOtherMarks (db : Database) (place : ℕ) : Type 0 where
   pub queue : tables.HasQueueIn db.schema tree
   pub differs : DiffersAt (map stored_marks (marked world)) (db.trees tree) place
 
+-- The tables represent a sound world of this version, which is known. Something has this name, the first one taken of
+-- those that its upgrade gives.
+pub record HasTakenName (db : Database) (version : ℕ) (name : List ℕ) : Type 0 where
+  pub project : IsSoundProject db
+  pub is : version ≡ project.world.version
+  pub taken : TakesUpgradeName db.schema version name
+
 -- The finding is true of the database, and the first in the written order: the tables, their rows, whether the rows
--- agree, the queue, its rows. `PutsLaterFirst` says when an unknown version comes before them.
+-- agree, the queue, its rows, and the names that an upgrade gives. `PutsLaterFirst` says when an unknown version comes
+-- before them.
 abbrev pub Tells : Database → Finding → Type 0
 Tells db (finding.Tables misfit) = LacksTables db misfit
 Tells db (finding.Row wrong) = HasWrongRow db wrong
@@ -127,6 +136,7 @@ Tells db (finding.Version version) = HasOtherVersion db version
 Tells db (finding.World wrong row) = HasUnsoundWorld db wrong row
 Tells db finding.Queue = LacksQueue db
 Tells db (finding.Marks place) = HasOtherMarks db place
+Tells db (finding.Taken version name) = HasTakenName db version name.now
 
 -- If the one row of the project has a later version than the program knows, exactly that is reported. Such a project
 -- may have other tables and rows.
@@ -139,20 +149,27 @@ TellsLater limit db found = limit ≡ None → PutsLaterFirst db found
 
 -- ---- what a verdict says
 
--- The database holds a sound project of this version, with so many workunits and results.
+-- The database holds a sound project of this version, with so many workunits and results. Nothing has a name that its
+-- upgrade gives.
 pub record IsSoundAs (db : Database) (version workunits results : ℕ) : Type 0 where
   pub project : IsSoundProject db
   pub counted : IsCounted project.world version workunits results
+  pub free : HasFreeNames db.schema version
 
 -- If the verdict is sound, the database holds a sound project with the reported numbers.
 abbrev pub SaysSound : Database → Verdict → Type 0
 SaysSound db (verdict.Sound version workunits results) = IsSoundAs db version workunits results
 SaysSound db (verdict.Unsound found) = ⊤
 
--- If the verdict is unsound, the database holds no sound project.
+-- What is found of a sound project with this world: a name of its upgrade that something has, and nothing else.
+abbrev pub TellsOfSound : Schema → World → Finding → Type 0
+TellsOfSound schema world (finding.Taken version name) = (version ≡ world.version) × TakesUpgradeName schema version name.now
+TellsOfSound schema world _ = ⊥
+
+-- If the verdict is unsound, the database holds no sound project, or one whose upgrade gives the name that is found.
 abbrev pub SaysUnsound : Database → Verdict → Type 0
 SaysUnsound db (verdict.Sound version workunits results) = ⊤
-SaysUnsound db (verdict.Unsound found) = IsSoundProject db → ⊥
+SaysUnsound db (verdict.Unsound found) = (project : IsSoundProject db) → TellsOfSound db.schema project.world found
 
 -- If the verdict is unsound, its finding is true of the database.
 abbrev pub SaysWhy : Database → Verdict → Type 0

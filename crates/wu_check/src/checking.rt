@@ -19,7 +19,7 @@ use wu_core::Fault;
 use wu_loader::finding::Found;
 use wu_loader::load_world;
 use wu_schema::version_of;
-use wu_tables::project_trees;
+use wu_tables::{project_trees, taken_name};
 
 /// The world that the tables represent, or what keeps them from it.
 #[derive(Drop)]
@@ -90,8 +90,8 @@ fn find_world<S: Alter>(conn: &mut Connection<S>, alloc: Global) -> Result<Basis
 
 /// Returns the verdict, for what is found first.
 fn examine<S: Alter>(conn: &mut Connection<S>, alloc: Global) -> Result<Verdict, Fault>
-    // Only reads; `Sound` is of a sound world of a known version with these numbers, and a finding
-    // is true.
+    // Only reads; `Sound` is of a sound world of a known version with these numbers, whose upgrade
+    // finds its names free, and a finding is true.
     ensures examines { Examines S.Store conn.old conn.new result Says }
     ensures opens { ServesUnlessFailed S.Store conn.new result }
     // With no limit on steps, a finding over a project's one row with a later version is that
@@ -105,6 +105,10 @@ fn examine<S: Alter>(conn: &mut Connection<S>, alloc: Global) -> Result<Verdict,
     if let Some(finding) = judge_world(conn, alloc, &loaded)? {
         return Ok(Verdict::Unsound(finding));
     }
+    if let Some(name) = taken_name(conn.schema(), loaded.version()) {
+        let taken = Finding::Taken(loaded.version(), name);
+        return Ok(Verdict::Unsound(taken));
+    }
     Ok(Verdict::Sound {
         version: loaded.version(),
         workunits: loaded.workunits().len() as u64,
@@ -112,8 +116,8 @@ fn examine<S: Alter>(conn: &mut Connection<S>, alloc: Global) -> Result<Verdict,
     })
 }
 
-/// Returns whether the database holds a sound project of a version that this program knows, or what was found first.
-/// Reads all tables whole, and changes nothing.
+/// Returns whether the database holds a sound project of a version that this program knows, and nothing that keeps it
+/// from an upgrade, or what was found first. Reads all tables whole, and changes nothing.
 pub fn check<S: Alter>(conn: &mut Connection<S>, alloc: Global) -> Result<Verdict, Fault>
     // Begins no transaction and commits nothing; except after `Memory` and `Broken` all is as
     // before; `Broken` means a failed disk or a closed connection.
@@ -121,13 +125,14 @@ pub fn check<S: Alter>(conn: &mut Connection<S>, alloc: Global) -> Result<Verdic
     // The connection is open afterwards, except after `Memory` and `Broken`.
     ensures opens { ServesUnlessFailed S.Store conn.new result }
     // Over kept tables, `Sound` means that they represent a sound world of a known version with
-    // these numbers of workunits and results.
+    // these numbers of workunits and results, and that nothing has a name that its upgrade gives.
     ensures sound { OnKept S.Store conn.old conn.new result SaysSound }
-    // A finding means that the tables represent no sound world of a known version.
+    // A finding means that the tables represent no sound world of a known version; or it is
+    // `Taken`, with the world's version and the first name of its upgrade that something has.
     ensures unsound { OnAnswer S.Store conn.old conn.new result SaysUnsound }
     // Over kept tables the finding is true, and the first in the written order: tables, their rows,
-    // keys and agreement, queue. An unknown version is that of the one row of `project`, or of what
-    // has its name.
+    // keys and agreement, queue, names of an upgrade. An unknown version is that of the one row of
+    // `project`, or of what has its name.
     ensures told { OnKept S.Store conn.old conn.new result SaysWhy }
     // Over kept tables with no limit on steps, a finding reports the version that the one row of
     // `project` has, if it is later.

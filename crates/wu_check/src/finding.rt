@@ -22,7 +22,7 @@ pub enum Key {
     HostClass(Name),
 }
 
-/// What keeps a database from holding a sound project.
+/// What keeps a database from holding a sound project, or the sound project that it holds from an upgrade.
 #[derive(Drop)]
 pub enum Finding {
     /// A table is missing or altered.
@@ -37,9 +37,12 @@ pub enum Finding {
     Queue,
     /// The row of the queue at this place, from 1, is not that of its workunit's marks, or is missing.
     Marks(u64),
+    /// The project is sound and of this older version, and something has this name, which its upgrade gives. So the
+    /// upgrade is refused.
+    Taken(u64, &'static str),
 }
 
-/// Whether a database holds a sound project.
+/// Whether a database holds a sound project that can be used or upgraded.
 #[derive(Drop)]
 pub enum Verdict {
     /// It does, of a version that this program knows.

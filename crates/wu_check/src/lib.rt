@@ -1,4 +1,4 @@
-//! Whether an open database holds a sound project, and what keeps it from being one.
+//! Whether an open database holds a sound project, and what keeps it from being one or from being upgraded.
 //!
 //! *Kept* tables have their rows in order of their rowids, and no row of a workunit or of the queue ends before its
 //! last column. The comments over clauses on a database leave out a premise that all of these clauses have: the disk is

@@ -62,6 +62,10 @@ misfit_line (misfit.Missing table) = codes "table " ++ name_of table ++ missing_
 misfit_line (misfit.Altered table) = codes "table " ++ name_of table ++ codes " is not that of a project" ++ line_end
 misfit_line misfit.HostNames = codes "table host has an index that does not compare names by their bytes" ++ line_end
 
+-- The line of a name that something has, and that an upgrade from this version gives.
+abbrev pub taken_line : ℕ → List ℕ → List ℕ
+taken_line version name = codes "version " ++ (decimal version ++ (codes " has no " ++ (name ++ (codes ", and something has that name: an upgrade cannot make it" ++ line_end))))
+
 -- The line of a finding.
 abbrev pub finding_line : Finding → List ℕ
 finding_line (finding.Tables misfit) = misfit_line misfit
@@ -70,6 +74,7 @@ finding_line (finding.Version version) = codes "version " ++ decimal version ++ 
 finding_line (finding.World wrong row) = key_text row ++ (codes " " ++ wrong_word wrong ++ line_end)
 finding_line finding.Queue = codes "table queue or one of its indexes is missing, or is not that of a project" ++ line_end
 finding_line (finding.Marks place) = codes "queue row " ++ decimal place ++ codes " " ++ codes "is missing, or not that of its workunit" ++ line_end
+finding_line (finding.Taken version name) = taken_line version name.now
 
 -- ---- why a database cannot be opened
 

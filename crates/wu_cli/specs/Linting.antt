@@ -1,9 +1,11 @@
 -- Whether a file reads as its import or its script would read it.
-use Rattle.std.specs.Prelude.{◌≡◌, ◌⊎◌, ℕ, List, ◌++◌, bytes_eq, codes, if◌then◌else◌, IfErr, Option, Some, None, Result, Ok, Err}
+use Rattle.std.specs.Prelude.{◌≡◌, ◌⊎◌, ℕ, ◌==◌, List, [], ◌++◌, bytes_eq, codes, if◌then◌else◌, IfErr, Option, Some, None, Result, Ok, Err}
+use Rattle.std.specs.Fmt.{decimal}
 use Rattle.wu_core.specs.Reads.{IsOrWantsMemory}
 use Rattle.wu_core.specs.declared.fault.Fault.{Fault}
 use Rattle.wu_core.specs.declared.fault.Fault.TheVariants.{BadFile, Memory, Output}
-use Rattle.wu_core.specs.declared.fault.FileCause.TheVariants.{Unreadable}
+use Rattle.wu_core.specs.declared.fault.FileCause.{FileCause}
+use Rattle.wu_core.specs.declared.fault.FileCause.TheVariants as cause
 use Rattle.wu_feed.specs.Classes.{classes_of_file}
 use Rattle.wu_feed.specs.Jobs.{jobs_of_file}
 use Rattle.wu_feed.specs.Limits.{longest_file, longest_template}
@@ -15,10 +17,12 @@ use Rattle.wu_report.specs.Writing.{WritesTo}
 use Rattle.wu_arguments.specs.declared.order.LintOrder.{LintOrder}
 use Rattle.wu_arguments.specs.declared.order.ScriptFile.{ScriptFile}
 use Rattle.wu_arguments.specs.declared.usage.Usage.TheVariants.{UnknownKind}
+use Rattle.wu_cli.specs.Endings.{fault_line}
 use Rattle.wu_cli.specs.Working.{AsksOfScript}
 use Rattle.wu_cli.specs.declared.linting.FileKind.{FileKind}
 use Rattle.wu_cli.specs.declared.linting.FileKind.TheVariants.{Jobs, Sends, Reports, Classes, Template}
 use Rattle.wu_cli.specs.declared.linting.LintKind.{LintKind}
+use Rattle.wu_cli.specs.declared.linting.Unread.{Unread}
 use Rattle.wu_cli.specs.declared.linting.LintKind.TheVariants.{Imported, Script}
 use Rattle.wu_cli.specs.declared.trouble.Trouble.{Trouble}
 use Rattle.wu_cli.specs.declared.trouble.Trouble.TheVariants as trouble
@@ -56,12 +60,68 @@ read_as Template bytes = nothing_of (template_of bytes)
 -- Whether a file with this content reads so; one that cannot be read is refused as its import refuses it.
 abbrev pub linted : FileKind → Option (List ℕ) → Result (Unit {0}) Fault
 linted kind (Some bytes) = read_as kind bytes
-linted kind None = Err (BadFile 0 Unreadable)
+linted kind None = Err (BadFile 0 cause.Unreadable)
 
--- The fault of a file, as a trouble.
-abbrev pub as_trouble : Result (Unit {0}) Fault → Result (Unit {0}) Trouble
-as_trouble (Ok read) = Ok tt
-as_trouble (Err fault) = Err (trouble.Fault fault)
+-- The fault of a file of this kind, as a trouble.
+abbrev pub as_trouble : FileKind → Result (Unit {0}) Fault → Result (Unit {0}) Trouble
+as_trouble kind (Ok read) = Ok tt
+as_trouble kind (Err fault) = Err (trouble.Unread (record { kind = kind; fault = fault }))
+
+-- ---- what is wanted
+
+abbrev pub header_wanted : FileKind → List ℕ
+header_wanted Jobs = codes "the header name,input"
+header_wanted Sends = codes "the header result,host,moment"
+header_wanted Reports = codes "the header result,host,moment,status,output"
+header_wanted Classes = codes "the header host,class"
+header_wanted Template = codes "keys and numbers"
+
+-- What is wanted in place of what a cause refuses.
+abbrev pub wanted : FileKind → FileCause → List ℕ
+wanted kind cause.Unreadable = codes "a file that can be read"
+wanted kind cause.TooLong = codes "at most 1048576 bytes"
+wanted kind cause.Header = header_wanted kind
+wanted kind cause.TooManyRows = codes "at most 1000 rows"
+wanted kind cause.Fields = codes "as many fields as the header has"
+wanted kind cause.Name = codes "1 to 64 ASCII letters, digits, _, . or -"
+wanted kind cause.Host = codes "1 to 64 ASCII letters, digits, _, . or -"
+wanted kind cause.Input = codes "hex, 0 to 4096 bytes"
+wanted kind cause.Result = codes "the name of a workunit, _ and a number from 0 to 99"
+wanted kind cause.Moment = codes "a moment as 2026-03-01T12:00:00Z"
+wanted kind cause.Status = codes "success, client_error or detached"
+wanted kind cause.Output = codes "hex, 0 to 65536 bytes, of a success alone"
+wanted kind cause.Class = codes "a number from 1 to 65535"
+
+-- The column, from 1, of the field that a cause refuses; 0 if it refuses no field.
+abbrev pub column_of : FileKind → FileCause → ℕ
+column_of Classes cause.Host = 1
+column_of kind cause.Name = 1
+column_of kind cause.Result = 1
+column_of kind cause.Input = 2
+column_of kind cause.Host = 2
+column_of kind cause.Class = 2
+column_of kind cause.Moment = 3
+column_of kind cause.Status = 4
+column_of kind cause.Output = 5
+column_of kind _ = 0
+
+abbrev pub column_line : ℕ → List ℕ → List ℕ
+column_line column text = codes "wanted in column " ++ (decimal column ++ (codes ": " ++ (text ++ line_end)))
+
+abbrev pub wanted_line : ℕ → List ℕ → List ℕ
+wanted_line column text =
+    if column == 0
+    then codes "wanted: " ++ text ++ line_end
+    else column_line column text
+
+-- What is wanted where a file of rows is refused; nothing for any other fault.
+abbrev pub wanted_text : FileKind → Fault → List ℕ
+wanted_text kind (BadFile row cause) = wanted_line (column_of kind cause) (wanted kind cause)
+wanted_text kind _ = []
+
+-- The fault of a file, and what is wanted there.
+abbrev pub unread_text : Unread → List ℕ
+unread_text unread = fault_line unread.fault ++ wanted_text unread.kind unread.fault
 
 module _ (gives : List ℕ → ℕ → Option (List ℕ) → Type 0) where
   -- The file at the path is read as one of this kind, or the call is out of memory.
@@ -77,7 +137,7 @@ module _ (gives : List ℕ → ℕ → Option (List ℕ) → Type 0) where
 
   -- The file at the path is read as what it is for.
   abbrev pub LintsKind : LintKind → List ℕ → Result (Unit {0}) Trouble → Type 0
-  LintsKind (Imported kind) path result = (read : Result (Unit {0}) Fault) × LintsFile kind path read × (result ≡ as_trouble read)
+  LintsKind (Imported kind) path result = (read : Result (Unit {0}) Fault) × LintsFile kind path read × (result ≡ as_trouble kind read)
   LintsKind Script path result = LintsScript path result
 
 -- The line of a file that reads as it should.

@@ -9,6 +9,7 @@ use Rattle.wu_arguments.specs.Statuses.{fault_status, refusal_status, usage_stat
 use Rattle.wu_cli.specs.Backups.{unmade_line, unmade_status}
 use Rattle.wu_cli.specs.Checks.{finding_line, reason_line, reason_status}
 use Rattle.wu_cli.specs.Outputs.{lost_line, no_folder_line}
+use Rattle.wu_cli.specs.Linting.{unread_text}
 use Rattle.wu_cli.specs.Endings.{bad_line_text, fault_line, line_fault_text, unopened_line, usage_text}
 use Rattle.wu_cli.specs.declared.trouble.Trouble.{Trouble}
 use Rattle.wu_cli.specs.declared.trouble.Trouble.TheVariants as trouble
@@ -26,6 +27,7 @@ trouble_status (trouble.Unsound finding) = 1
 trouble_status (trouble.Unmade why) = unmade_status why
 trouble_status trouble.NoFolder = 1
 trouble_status (trouble.Lost lost) = unmade_status lost.why
+trouble_status (trouble.Unread unread) = fault_status unread.fault
 
 abbrev pub trouble_text : Trouble → List ℕ
 trouble_text (trouble.Usage usage) = usage_text usage
@@ -38,6 +40,7 @@ trouble_text (trouble.Unsound finding) = finding_line finding
 trouble_text (trouble.Unmade why) = unmade_line why
 trouble_text trouble.NoFolder = no_folder_line
 trouble_text (trouble.Lost lost) = lost_line lost
+trouble_text (trouble.Unread unread) = unread_text unread
 
 -- The trouble of a failed opening: out of memory, or else that the database cannot be opened.
 abbrev pub trouble_of_opening : Fault → Trouble

@@ -5,7 +5,7 @@ ghost use Rattle.std.specs.Fmt.{decimal};
 ghost use Rattle.wu_core.specs.declared.fault.Fault.TheVariants.{Output};
 ghost use Rattle.wu_report.specs.Texts.{line_end};
 ghost use Rattle.wu_report.specs.Writing.{WritesTo};
-ghost use Rattle.wu_cli.specs.Checks.{finding_line, key_text, misfit_line, missing_text, row_front, sound_line};
+ghost use Rattle.wu_cli.specs.Checks.{finding_line, key_text, misfit_line, missing_text, row_front, sound_line, taken_line};
 
 use crate::texts::{placed, write_flushed, write_line};
 use std::io::Write;
@@ -116,6 +116,23 @@ fn line_of_row<W: Write>(out: &mut W, key: &Key, what: &str) -> Result<(), Fault
     )
 }
 
+/// Writes which name of an upgrade from this version something has.
+fn line_of_taken<W: Write>(out: &mut W, version: u64, name: &str) -> Result<(), Fault>
+    ensures { WritesTo W.contents out.old out.new (taken_line version name.now) result }
+{
+    write_flushed(
+        out,
+        &[
+            Piece::Text("version "),
+            Piece::Number(version),
+            Piece::Text(" has no "),
+            Piece::Text(name),
+            Piece::Text(", and something has that name: an upgrade cannot make it"),
+            Piece::Text("\n"),
+        ],
+    )
+}
+
 /// Writes what was found.
 pub(crate) fn line_of_finding<W: Write>(out: &mut W, finding: &Finding) -> Result<(), Fault>
     // With Ok exactly the line of the finding is written, and else a prefix of it.
@@ -141,6 +158,7 @@ pub(crate) fn line_of_finding<W: Write>(out: &mut W, finding: &Finding) -> Resul
             *place,
             "is missing, or not that of its workunit",
         ),
+        Finding::Taken(version, name) => line_of_taken(out, *version, *name),
     }
 }
 

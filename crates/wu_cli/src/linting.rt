@@ -4,9 +4,9 @@ ghost use Rattle.std.specs.Prelude.{◌≡◌, IsOkUnless};
 ghost use Rattle.wu_core.specs.declared.fault.Fault.TheVariants.{Output};
 ghost use Rattle.wu_core.specs.Reads.{IsOrWantsMemory};
 ghost use Rattle.wu_report.specs.Writing.{WritesTo};
-ghost use Rattle.wu_cli.specs.Linting.{kind_named, Lints, LintsFile, LintsKind, LintsScript, longest_of, nothing_of, read_as, sound_file_text};
+ghost use Rattle.wu_cli.specs.Linting.{column_line, column_of, header_wanted, kind_named, Lints, LintsFile, LintsKind, LintsScript, longest_of, nothing_of, read_as, sound_file_text, unread_text, wanted, wanted_line, wanted_text};
 
-use crate::texts::write_flushed;
+use crate::texts::{line_of_fault, worded, write_flushed};
 use crate::trouble::Trouble;
 use crate::work::Work;
 use std::alloc::Global;
@@ -27,6 +27,13 @@ pub enum FileKind {
     Reports,
     Classes,
     Template,
+}
+
+/// A file that does not read as its import would read it, and the import's fault.
+#[derive(Clone, Copy)]
+pub struct Unread {
+    pub kind: FileKind,
+    pub fault: Fault,
 }
 
 /// What a file is read as.
@@ -50,6 +57,102 @@ fn kind_named(word: &str) -> Option<LintKind>
         "script" => Some(LintKind::Script),
         _ => None,
     }
+}
+
+/// Returns the header that such a file has.
+fn header_wanted(kind: FileKind) -> &'static str
+    ensures { result.now ≡ header_wanted kind }
+{
+    match kind {
+        FileKind::Jobs => "the header name,input",
+        FileKind::Sends => "the header result,host,moment",
+        FileKind::Reports => "the header result,host,moment,status,output",
+        FileKind::Classes => "the header host,class",
+        FileKind::Template => "keys and numbers",
+    }
+}
+
+/// Returns what is wanted in place of what a cause refuses.
+fn wanted(kind: FileKind, cause: FileCause) -> &'static str
+    ensures { result.now ≡ wanted kind cause }
+{
+    match cause {
+        FileCause::Unreadable => "a file that can be read",
+        FileCause::TooLong => "at most 1048576 bytes",
+        FileCause::Header => header_wanted(kind),
+        FileCause::TooManyRows => "at most 1000 rows",
+        FileCause::Fields => "as many fields as the header has",
+        FileCause::Name | FileCause::Host => "1 to 64 ASCII letters, digits, _, . or -",
+        FileCause::Input => "hex, 0 to 4096 bytes",
+        FileCause::Result => "the name of a workunit, _ and a number from 0 to 99",
+        FileCause::Moment => "a moment as 2026-03-01T12:00:00Z",
+        FileCause::Status => "success, client_error or detached",
+        FileCause::Output => "hex, 0 to 65536 bytes, of a success alone",
+        FileCause::Class => "a number from 1 to 65535",
+    }
+}
+
+/// Returns the column, from 1, of the field that a cause refuses in such a file; 0 if it refuses no field.
+fn column_of(kind: FileKind, cause: FileCause) -> u64
+    ensures { result ≡ column_of kind cause }
+{
+    match (kind, cause) {
+        (FileKind::Classes, FileCause::Host) => 1,
+        (_, FileCause::Name | FileCause::Result) => 1,
+        (_, FileCause::Input | FileCause::Host | FileCause::Class) => 2,
+        (_, FileCause::Moment) => 3,
+        (_, FileCause::Status) => 4,
+        (_, FileCause::Output) => 5,
+        _ => 0,
+    }
+}
+
+/// Writes what is wanted in a column.
+fn write_wanted_in<'a, W: Write>(out: &mut W, column: u64, wanted: &'a str) -> Result<(), Fault>
+    ensures { WritesTo W.contents out.old out.new (column_line column wanted.now) result }
+{
+    write_flushed(
+        out,
+        &[
+            Piece::Text("wanted in column "),
+            Piece::Number(column),
+            Piece::Text(": "),
+            Piece::Text(wanted),
+            Piece::Text("\n"),
+        ],
+    )
+}
+
+/// Writes what is wanted in a column, or in the file.
+fn write_wanted<'a, W: Write>(out: &mut W, column: u64, wanted: &'a str) -> Result<(), Fault>
+    ensures { WritesTo W.contents out.old out.new (wanted_line column wanted.now) result }
+{
+    if column == 0 {
+        worded(out, "wanted: ", wanted)
+    } else {
+        write_wanted_in(out, column, wanted)
+    }
+}
+
+/// Writes what is wanted where a file of rows is refused; nothing for any other fault.
+fn write_wanted_of<W: Write>(out: &mut W, kind: FileKind, fault: Fault) -> Result<(), Fault>
+    ensures { WritesTo W.contents out.old out.new (wanted_text kind fault) result }
+{
+    match fault {
+        Fault::BadFile { row: _row, cause } => {
+            write_wanted(out, column_of(kind, cause), wanted(kind, cause))
+        }
+        _ => Ok(()),
+    }
+}
+
+/// Writes the fault of a file, and what is wanted there.
+pub(crate) fn text_of_unread<W: Write>(out: &mut W, unread: Unread) -> Result<(), Fault>
+    // With Ok exactly the fault's line and what is wanted are written, and else a prefix of them.
+    ensures { WritesTo W.contents out.old out.new (unread_text unread) result }
+{
+    line_of_fault(out, unread.fault)?;
+    write_wanted_of(out, unread.kind, unread.fault)
 }
 
 /// Returns how many bytes such a file has at most.
@@ -115,8 +218,10 @@ fn lint_as<F: ReadFile>(alloc: Global, kind: LintKind, path: &str, files: &F) ->
 {
     match kind {
         LintKind::Imported(kind) => {
-            lint_file(alloc, kind, path, files)?;
-            Ok(())
+            match lint_file(alloc, kind, path, files) {
+                Ok(()) => Ok(()),
+                Err(fault) => Err(Trouble::Unread(Unread { kind, fault })),
+            }
         }
         LintKind::Script => lint_script(alloc, path, files),
     }
@@ -134,7 +239,7 @@ fn write_sound_file<W: Write>(out: &mut W, path: &str) -> Result<(), Fault>
 }
 
 /// Reads a file as its import or its script would read it, and says that it can. Else the trouble is the first fault of
-/// that reading, or of a script the first line that cannot be run. An unknown kind is refused with status 2.
+/// that reading, with what is wanted there, or of a script the first line that cannot be run. An unknown kind is refused with status 2.
 ///
 /// A script's lines are read as over a project in `project.db`, which is not opened.
 pub fn lint<F: ReadFile, W: Write>(

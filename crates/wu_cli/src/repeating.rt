@@ -69,7 +69,7 @@ pub fn act<S: Alter, W: Write>(
             let (run, handled) = drive_and_count(alloc, project, commands.as_slice(), out);
             (run.end, fill_limit(commands.as_slice(), handled))
         }
-        Action::Look(view) => match show(alloc, project, *view, out) {
+        Action::Look(view) => match show(alloc, project, view, out) {
             Ok(()) => (None, false),
             Err(fault) => (Some(fault), false),
         },

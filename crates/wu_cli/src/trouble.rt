@@ -11,6 +11,7 @@ ghost use Rattle.wu_schema.specs.Faults.{fault_of};
 
 use crate::backup::{Unmade, line_of_unmade};
 use crate::findings::line_of_finding;
+use crate::linting::{Unread, text_of_unread};
 use crate::outputs::{LostOutput, line_of_lost};
 use crate::reason::Reason;
 use crate::texts::{
@@ -53,6 +54,8 @@ pub enum Trouble {
     NoFolder,
     /// The output of an archived workunit has no file.
     Lost(LostOutput),
+    /// A file does not read as its import would read it.
+    Unread(Unread),
 }
 
 impl From<Usage> for Trouble {
@@ -121,6 +124,7 @@ impl Trouble {
             Trouble::Unmade(why) => why.status(),
             Trouble::NoFolder => NO_FOLDER,
             Trouble::Lost(lost) => lost.why.status(),
+            Trouble::Unread(unread) => fault_status(unread.fault),
         }
     }
 
@@ -153,6 +157,7 @@ pub(crate) fn write_trouble<E: Write>(trouble: &Trouble, err: &mut E) -> Result<
         Trouble::Unmade(why) => line_of_unmade(err, *why),
         Trouble::NoFolder => write_line(err, "cannot write the outputs: the folder is not there"),
         Trouble::Lost(lost) => line_of_lost(err, *lost),
+        Trouble::Unread(unread) => text_of_unread(err, *unread),
     }
 }
 

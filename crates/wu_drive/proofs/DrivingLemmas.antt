@@ -9,7 +9,7 @@ use Rattle.sqlite.specs.State.{HasCleanDisk}
 use Rattle.sqlite.specs.Store.{Ghosts}
 use Rattle.wu_schema.specs.Faults.{IsFailure}
 use Rattle.wu_core.specs.declared.fault.Fault.{Fault}
-use Rattle.wu_core.specs.declared.fault.Fault.TheVariants.{BadLimit, Ended, Memory, OldSchema, Output}
+use Rattle.wu_core.specs.declared.fault.Fault.TheVariants.{BadLimit, Ended, OldSchema, Output}
 use Rattle.std.proofs.lemmas.List.Elements.{All-nil}
 use Rattle.wu_core.specs.Classes.{IsClassed}
 use Rattle.wu_core.specs.World.{Import, World, empty_world}

@@ -3,7 +3,6 @@ pub mod LifeLemmas
 mod LineLemmas
 pub mod MarkedAnswers
 pub mod NamedAnswers
-mod VerdictLemmas
 pub mod DrivingLemmas
 mod CountingLemmas
 mod DemonstrationLemmas

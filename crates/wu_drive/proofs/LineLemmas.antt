@@ -1,11 +1,8 @@
 -- The pieces of an answer, one after another, are its text.
-use Rattle.std.proofs.Common.{◌≡◌, ℕ, ◌+◌, ◌-◌, ◌<◌, List, [], ◌++◌, length, get_or, decimal, append_assoc, arith, refl, sym, ◌∙◌}
+use Rattle.std.proofs.Common.{◌≡◌, ℕ, ◌-◌, List, [], ◌++◌, length, decimal, append_assoc}
 use Rattle.std.specs.Prelude.{codes, Option}
-use Rattle.std.proofs.lemmas.List.FromFn.{get_or-enumerate_from}
-use Rattle.std.proofs.lemmas.Grind.{get_or_default_zero}
-use Rattle.std.specs.List.{enumerate_from}
-use Rattle.wu_report.specs.Texts.{applied_count, number_or_dash}
-use Rattle.wu_drive.specs.Texts.{batch_text, classes_text, reply_text, rows_text, skip_lines}
+use Rattle.wu_report.specs.Texts.{applied_count, number_or_dash, skip_lines}
+use Rattle.wu_drive.specs.Texts.{batch_text, classes_text, reply_text, rows_text}
 use Rattle.wu_machine.specs.Requests.{Cancelled}
 
 pub cancel_pieces-are : (name word : List ℕ) → word ≡ name → reply_text (Cancelled name) ≡ codes "cancel " ++ (word ++ (codes ": done" ++ (codes "\n" ++ [])))
@@ -27,10 +24,3 @@ rows_pieces word name applied skipped =
 pub rows_pieces-are : (word name : List ℕ) (skip : ℕ → Option (List ℕ)) (verdicts word₂ name₂ : List ℕ) (applied : ℕ) → word₂ ≡ word → name₂ ≡ name → applied ≡ applied_count verdicts
     → rows_text word name skip verdicts ≡ rows_pieces word₂ name₂ applied (length verdicts - applied) ++ skip_lines skip verdicts
 rows_pieces-are word name skip verdicts word₂ name₂ applied e1 e2 e3 = rw (e1, e2, e3) (simp append_assoc)
-
--- a row with its number, counted from 2
-pub row_at : (xs : List ℕ) (i : ℕ) (row : ℕ × ℕ) → i < length xs → row.0 ≡ i + 2 → row.1 ≡ get_or xs i 0 → row ≡ get_or (enumerate_from 2 xs) i row
-row_at xs i row within e1 e2 =
-    let place : 2 + i ≡ row.0 = omega arith in
-    let entry : get_or xs i row.1 ≡ row.1 = get_or_default_zero xs i row.1 within ∙ sym e2 in
-    sym (get_or-enumerate_from 2 xs i row within ∙ rw (place, entry) refl)

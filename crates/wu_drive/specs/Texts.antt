@@ -1,19 +1,12 @@
 -- The texts of answers and of faults, as functions of values. Each line ends with a line feed.
-use Rattle.std.specs.Prelude.{ℕ, ◌-◌, ◌==◌, List, [], ◌∷◌, ◌++◌, length, find, flat_map, codes, Option, None}
+use Rattle.std.specs.Prelude.{ℕ, ◌-◌, List, ◌++◌, length, codes, Option}
 use Rattle.std.specs.Fmt.{decimal}
-use Rattle.std.specs.List.{enumerate_from}
-use Rattle.std.specs.Option.{option_map_or}
 use Rattle.wu_core.specs.declared.fault.Fault.{Fault}
 use Rattle.wu_core.specs.declared.fault.Fault.TheVariants as fault
 use Rattle.wu_core.specs.declared.import.ImportKind.{ImportKind}
 use Rattle.wu_core.specs.declared.import.ImportKind.TheVariants as kind
 use Rattle.wu_core.specs.Words.{template_key_word, file_cause_word}
-use Rattle.wu_report.specs.Texts.{applied_count, line_end, number_or_dash, pass_word}
-use Rattle.wu_rules.specs.Verdicts.{report_verdict_code, report_verdict_word, send_verdict_code, send_verdict_word}
-use Rattle.wu_rules.specs.declared.verdicts.ReportVerdict.{ReportVerdict}
-use Rattle.wu_rules.specs.declared.verdicts.ReportVerdict.TheVariants as report
-use Rattle.wu_rules.specs.declared.verdicts.SendVerdict.{SendVerdict}
-use Rattle.wu_rules.specs.declared.verdicts.SendVerdict.TheVariants as send
+use Rattle.wu_report.specs.Texts.{applied_count, line_end, number_or_dash, pass_word, report_skip_word, send_skip_word, skip_lines}
 use Rattle.wu_machine.specs.Requests.{Reply, Imported, Passed, Cancelled, Upgraded}
 
 -- The text of a fault, without the end of its line.
@@ -35,34 +28,6 @@ fault_text fault.Memory = codes "F14 Memory"
 fault_text fault.Broken = codes "F15 Broken"
 fault_text fault.Ended = codes "F16 Ended"
 fault_text fault.Output = codes "F17 Output"
-
--- The verdict on a row of sends that has this number, or `None`.
-abbrev pub send_verdict_numbered : ℕ → Option SendVerdict
-send_verdict_numbered number =
-    find (λ verdict. send_verdict_code verdict == number) (send.Applied ∷ send.Unknown ∷ send.NotUnsent ∷ send.SameHost ∷ send.Class ∷ [])
-
--- The verdict on a row of reports that has this number, or `None`.
-abbrev pub report_verdict_numbered : ℕ → Option ReportVerdict
-report_verdict_numbered number =
-    find (λ verdict. report_verdict_code verdict == number)
-    (report.Applied ∷ report.Unknown ∷ report.NotSent ∷ report.WrongHost ∷ report.BeforeSent ∷ report.Over ∷ [])
-
--- Why a row of sends was skipped, by the number of its verdict; `None` if it was applied.
-abbrev pub send_skip_word : ℕ → Option (List ℕ)
-send_skip_word number = option_map_or send_verdict_word (send_verdict_numbered number) None
-
--- Why a row of reports was skipped, by the number of its verdict; `None` if it was applied.
-abbrev pub report_skip_word : ℕ → Option (List ℕ)
-report_skip_word number = option_map_or report_verdict_word (report_verdict_numbered number) None
-
--- The line of a skipped row; no text for an applied one.
-abbrev pub skip_line : (ℕ → Option (List ℕ)) → ℕ × ℕ → List ℕ
-skip_line word row =
-    option_map_or (λ why. codes "  row " ++ decimal row.0 ++ codes ": " ++ why ++ line_end) (word row.1) []
-
--- A line for each skipped row; the first row after the header is row 2.
-abbrev pub skip_lines : (ℕ → Option (List ℕ)) → List ℕ → List ℕ
-skip_lines word verdicts = flat_map (skip_line word) (enumerate_from 2 verdicts)
 
 -- How many rows of a file were applied, how many were skipped, and why each of these was skipped.
 abbrev pub rows_text : List ℕ → List ℕ → (ℕ → Option (List ℕ)) → List ℕ → List ℕ

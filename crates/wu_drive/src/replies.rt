@@ -1,113 +1,37 @@
 //! The texts of answers.
 
-ghost use Rattle.std.specs.Prelude.{◌≡◌, IsOkUnless, option_map};
+ghost use Rattle.std.specs.Prelude.{IsOkUnless};
 ghost use Rattle.wu_core.specs.declared.fault.Fault.TheVariants.{Output};
-ghost use Rattle.wu_drive.specs.Texts.{batch_text, classes_text, import_text, reply_text, report_skip_word, send_skip_word};
+ghost use Rattle.wu_drive.specs.Texts.{batch_text, classes_text, import_text, reply_text};
 ghost use Rattle.wu_machine.specs.Requests.{Cancelled, Passed, Upgraded};
-ghost use Rattle.wu_drive.specs.Writing.{answer_text, applied_text, file_word, skip_word, skipped_line, skipped_lines};
+ghost use Rattle.wu_drive.specs.Writing.{answer_text, applied_text};
 ghost use Rattle.wu_report.specs.Writing.{CutsWhatFails, WritesTo};
 
 use std::io::Write;
 use wu_core::{Fault, ImportKind, Name};
 use wu_passes::{Answer, Pass};
-use wu_report::{Piece, applied_count, flush, number_or_dash, pass_word, write_pieces};
-use wu_rules::{ReportVerdict, SendVerdict};
-
-/// An imported file whose rows are applied one by one, or skipped.
-#[derive(Clone, Copy)]
-enum AppliedFile {
-    /// Instances that were sent to hosts.
-    Sends,
-    /// Results that hosts reported.
-    Reports,
-}
-
-/// Returns why a row of sends was skipped, by the number of its verdict; `None` if it was applied.
-fn send_skip_word(verdict: u8) -> Option<&'static str>
-    ensures { option_map (λ word. word.now) result ≡ send_skip_word verdict }
-{
-    SendVerdict::from_code(verdict)?.word()
-}
-
-/// Returns why a row of reports was skipped, by the number of its verdict; `None` if it was applied.
-fn report_skip_word(verdict: u8) -> Option<&'static str>
-    ensures { option_map (λ word. word.now) result ≡ report_skip_word verdict }
-{
-    ReportVerdict::from_code(verdict)?.word()
-}
-
-/// Returns the word of a file in its answer.
-fn file_word(file: AppliedFile) -> &'static str
-    ensures { result.now ≡ file_word file }
-{
-    match file {
-        AppliedFile::Sends => "sent",
-        AppliedFile::Reports => "reported",
-    }
-}
-
-/// Returns why a row was skipped, by the number of its verdict; `None` if it was applied.
-fn skip_word(file: AppliedFile, verdict: u8) -> Option<&'static str>
-    ensures { option_map (λ word. word.now) result ≡ skip_word file verdict }
-{
-    match file {
-        AppliedFile::Sends => send_skip_word(verdict),
-        AppliedFile::Reports => report_skip_word(verdict),
-    }
-}
-
-/// Writes the line of a row, if it was skipped.
-fn write_skip<W: Write>(out: &mut W, file: AppliedFile, row: u64, verdict: u8) -> Result<(), Fault>
-    ensures bytes { WritesTo W.contents out.old out.new (skipped_line file row verdict) result }
-    ensures cut { CutsWhatFails W.contents out.old out.new (skipped_line file row verdict) result }
-    ensures fault { IsOkUnless result Output }
-{
-    let Some(word) = skip_word(file, verdict) else {
-        return Ok(());
-    };
-    write_pieces(
-        out,
-        &[
-            Piece::Text("  row "),
-            Piece::Number(row),
-            Piece::Text(": "),
-            Piece::Text(word),
-            Piece::Text("\n"),
-        ],
-    )
-}
-
-/// Writes a line for each row that was skipped. The first row after the header is row 2.
-fn write_skips<W: Write>(out: &mut W, file: AppliedFile, verdicts: &[u8]) -> Result<(), Fault>
-    ensures bytes { WritesTo W.contents out.old out.new (skipped_lines file verdicts.now) result }
-    ensures cut { CutsWhatFails W.contents out.old out.new
-        (skipped_lines file verdicts.now) result }
-    ensures fault { IsOkUnless result Output }
-{
-    for (place, verdict) in verdicts.iter().enumerate() {
-        write_skip(out, file, place as u64 + 2, *verdict)?;
-    }
-    Ok(())
-}
+use wu_report::{
+    Piece, applied_count, flush, number_or_dash, pass_word, write_pieces, write_skips,
+};
 
 /// Writes how many rows of a file were applied and how many skipped, and why each of these was.
 fn write_applied<W: Write>(
     out: &mut W,
-    file: AppliedFile,
+    kind: ImportKind,
     name: &Name,
     verdicts: &[u8],
 ) -> Result<(), Fault>
     ensures bytes { WritesTo W.contents out.old out.new
-        (applied_text file name.now verdicts.now) result }
+        (applied_text kind name.now verdicts.now) result }
     ensures cut { CutsWhatFails W.contents out.old out.new
-        (applied_text file name.now verdicts.now) result }
+        (applied_text kind name.now verdicts.now) result }
     ensures fault { IsOkUnless result Output }
 {
     let applied = applied_count(verdicts);
     write_pieces(
         out,
         &[
-            Piece::Text(file_word(file)),
+            Piece::Text(kind.word()),
             Piece::Text(" "),
             Piece::Text(name.as_str()),
             Piece::Text(": "),
@@ -117,7 +41,7 @@ fn write_applied<W: Write>(
             Piece::Text(" skipped\n"),
         ],
     )?;
-    write_skips(out, file, verdicts)
+    write_skips(out, kind, verdicts)
 }
 
 /// Writes how many workunits a batch added, and the first one's number.
@@ -178,8 +102,7 @@ fn write_import<W: Write>(
 {
     match kind {
         ImportKind::Batch => write_batch(out, name, first, verdicts),
-        ImportKind::Sent => write_applied(out, AppliedFile::Sends, name, verdicts),
-        ImportKind::Reported => write_applied(out, AppliedFile::Reports, name, verdicts),
+        ImportKind::Sent | ImportKind::Reported => write_applied(out, kind, name, verdicts),
         ImportKind::Classes => write_classes(out, name, verdicts),
     }
 }

@@ -122,7 +122,7 @@ fn run_demo<W: Write>(alloc: Global, out: &mut W) -> Result<(), Fault>
     let commands = [demo_batch(alloc)?];
     match drive(alloc, &mut project, &commands, out).end {
         Some(fault) => Err(fault),
-        None => show(alloc, &mut project, View::Workunits, out),
+        None => show(alloc, &mut project, &View::Workunits, out),
     }
 }
 

@@ -114,6 +114,8 @@ its name
   applied= skipped=
                 how many of them were, and were not: explain skips
   first=        of a batch the number of its first workunit, - where it has none
+With --name it prints the imports of that name alone, each with a line for every row
+that was skipped: explain skips
 ",
         ),
         "passes" => Some(
@@ -160,6 +162,14 @@ row or its place in order of the key, and what is the matter; or with status 3
 why the database can't be opened. It changes no table and makes no database, and
 its memory grows with the tables. Where it tells something, stop all passes, keep
 a copy of both files, and go back to a copy that a check calls sound.
+The order is: tables, their rows, rows that do not agree, the queue, and last the
+names that an upgrade gives. If something has such a name, the project is sound,
+and only its upgrade is refused: set back a version that was lowered by hand, or
+rename what has the name.
+A file that is no database that this program reads may be one with a trigger, with
+a view or with a row that refers to none. sqlite3 finds them by
+  SELECT name, type FROM sqlite_schema WHERE type IN ('trigger', 'view')
+  PRAGMA foreign_key_check
 ",
         ),
         "backups" => Some(

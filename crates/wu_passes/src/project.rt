@@ -2,6 +2,7 @@
 
 ghost use Rattle.std.specs.Prelude.{◌≡◌, false};
 
+mod named;
 mod session;
 mod summary;
 mod waiting;

@@ -21,7 +21,7 @@ pub fn adopt<S: Alter + Drop>(conn: Connection<S>) -> Result<Project<S>> {
 fn write_view<S: Alter>(
     alloc: Global,
     project: &mut Project<S>,
-    view: View,
+    view: &View,
     out: &mut Vec<u8>,
 ) -> Result<()> {
     match show(alloc, project, view, out) {
@@ -45,7 +45,7 @@ pub fn views<S: Alter>(alloc: Global, project: &mut Project<S>) -> Result<Vec<u8
         View::Summary,
         View::Classes,
     ] {
-        write_view(alloc, project, view, &mut out)?;
+        write_view(alloc, project, &view, &mut out)?;
     }
     Ok(out)
 }

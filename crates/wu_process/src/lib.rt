@@ -18,7 +18,7 @@ mod copy;
 mod database;
 mod export;
 mod files;
-mod made;
+mod hints;
 mod new_file;
 mod opening;
 mod outputs;
@@ -29,7 +29,7 @@ pub use database::LeftDatabase;
 use database::{hold_session, open_and_perform};
 use export::export;
 use files::HostFiles;
-use made::{order_without_file, tell_made};
+use hints::Hints;
 use signs::{Cleared, Signs, Watched};
 use sqlite::FileFrom;
 use sqlite_disk::{Disk, Wary};
@@ -222,10 +222,21 @@ fn can_wipe(rt: &HostRuntime) -> bool {
     }
 }
 
+/// Shows on a terminal what there is to say of a line or a script, as `Hints` does.
+fn show_hints<D: Disk, E: Write>(
+    rt: &HostRuntime,
+    hints: &Option<Hints>,
+    end: &End<D>,
+    err: &mut E,
+) {
+    if let Some(hints) = hints {
+        hints.tell(rt, end.status, &end.left, err);
+    }
+}
+
 /// Does what the words of the command line ask for, as `run_with`, with the input and the outputs of the process. Nothing
 /// is assumed of the database file. If standard error is a terminal, it shows in the meantime how many answers have gone
-/// out, after how many seconds, and the last one. At the end it shows that a database was made, if one was. Returns the
-/// status to end with.
+/// out, after how many seconds, and the last one. At the end it shows what `Hints` says. Returns the status to end with.
 pub fn run(rt: &HostRuntime) -> u8
     // The status is that of some call of `run_with`, over some words, some outputs and a database
     // file with any contents; or it is 4.
@@ -238,8 +249,8 @@ pub fn run(rt: &HostRuntime) -> u8
     let is_terminal = rt.stderr().is_terminal() && !asks_for_session(&words);
     let can_wipe = can_wipe(rt);
     let mut err = Cleared::new(rt.stderr(), is_terminal && can_wipe);
-    let without_file = if is_terminal {
-        order_without_file(rt, &words)
+    let hints = if is_terminal {
+        Hints::before(rt, &words)
     } else {
         None
     };
@@ -249,10 +260,10 @@ pub fn run(rt: &HostRuntime) -> u8
             let mut out = Watched::new(out, signs);
             out.begin();
             let mut input = rt.reader();
-            let status = run_with(rt, words, &mut input, Wary, &mut out, &mut err).status;
+            let end = run_with(rt, words, &mut input, Wary, &mut out, &mut err);
             out.end();
-            tell_made(rt, &without_file, &mut err);
-            status
+            show_hints(rt, &hints, &end, &mut err);
+            end.status
         }
         Err(_) => tell(Err(Trouble::Fault(Fault::Memory)), &mut err).0,
     }

@@ -1,5 +1,5 @@
 -- From what a check did to what it told of the files.
-use Rattle.std.proofs.Common.{◌≡◌, ℕ, ◌==◌, true, false, Bool, List, filter, if◌then◌else◌, None, Option, Result, Ok, Err, inl, inr, refl, sym, ap, subst, ◌∙◌}
+use Rattle.std.proofs.Common.{◌≡◌, ◌⊎◌, ℕ, ◌==◌, true, false, Bool, List, filter, if◌then◌else◌, None, Option, Result, Ok, Err, inl, inr, refl, sym, ap, subst, ◌∙◌}
 use Rattle.std.proofs.Math.Logic.{∥∥₁_elim}
 use Rattle.std.specs.Prelude.{IfErr, IfOk, MatchResult, IsOkUnless}
 use Rattle.sqlite_disk.specs.declared.Files.{Files}
@@ -31,6 +31,7 @@ use Rattle.sqlite.specs.Table.{Table}
 use Rattle.sqlite.specs.declared.file.Leftover.{Leftover}
 use Rattle.sqlite.specs.declared.file.Leftover.TheVariants as left
 use Rattle.wu_schema.proofs.Words.{Has, all_has}
+use Rattle.wu_core.specs.World.{World}
 use Rattle.wu_check.specs.Checking.{HasWholeRows, IsInOrder, IsKept, IsSoundProject}
 use Rattle.wu_check.specs.Findings.{PutsLaterFirst, SaysLater, SaysSound, SaysUnsound, SaysWhy, Tells}
 use Rattle.wu_check.specs.declared.finding.Finding.{Finding}
@@ -49,7 +50,7 @@ use Rattle.wu_cli.specs.declared.trouble.Trouble.{Trouble}
 use Rattle.wu_cli.specs.declared.trouble.Trouble.TheVariants as trouble
 use Rattle.wu_process.specs.Checks.{ChecksOpened, ChecksUnopened}
 use Rattle.wu_process.specs.Copies.{memory_disk}
-use Rattle.wu_process_laws.specs.Checked.{EachCheckIsTrue, FindsSound, FindsWith, image_of_bytes, IsToldTruly, IsWant, TellsOfFiles}
+use Rattle.wu_process_laws.specs.Checked.{EachCheckIsTrue, FindsSound, FindsWith, image_of_bytes, IsTakenName, IsToldTruly, IsWant, TellsOfFiles}
 use Rattle.wu_process_laws.proofs.Leaving.{none_beside}
 
 -- ---- order
@@ -111,14 +112,18 @@ module _ {W : Type 0} (contents : W → Option (List ℕ)) (old new : W) (done :
         finds (λ d. IsToldTruly d finding) (λ k. record { tells = subst (Tells db) same (says k); later = subst (PutsLaterFirst db) same (later k unlimited) })
     why_from (Err f) limit unlimited says later tells finding is = absurd (let e = tells.0 in cc)
 
-    want_from : (v : Result Verdict Fault) → IfOk v (SaysUnsound db) → IfErr v IsFailure → Told v → IsSoundProject db → IfErr done IsWant
+    abbrev IsExpected : World → Trouble → Type 0
+    IsExpected world told = IsWant told ⊎ IsTakenName image world told
+
+    want_from : (v : Result Verdict Fault) → IfOk v (SaysUnsound db) → IfErr v IsFailure → Told v → (p : IsSoundProject db) → IfErr done (IsExpected p.world)
     want_from (Ok (verdict.Sound version workunits results)) says fails tells p = wanted done tells.1
       where
-        wanted : (r : Result (Unit {0}) Trouble) → IsOkUnless r (trouble.Fault Output) → IfErr r IsWant
+        wanted : (r : Result (Unit {0}) Trouble) → IsOkUnless r (trouble.Fault Output) → IfErr r (IsExpected p.world)
         wanted (Ok u) is = tt
-        wanted (Err t) is = subst IsWant (sym is) (inr refl)
-    want_from (Ok (verdict.Unsound f)) says fails tells p = absurd (says p)
-    want_from (Err f) says fails tells p = subst (λ (r : Result (Unit {0}) Trouble). IfErr r IsWant) (sym tells.0) (inl fails)
+        wanted (Err t) is = inl (subst IsWant (sym is) (inr refl))
+    want_from (Ok (verdict.Unsound f)) says fails tells p =
+        subst (λ (r : Result (Unit {0}) Trouble). IfErr r (IsExpected p.world)) (sym tells.0) (inr (record { db = db; found = found; sound = sound; taken = says p }))
+    want_from (Err f) says fails tells p = subst (λ (r : Result (Unit {0}) Trouble). IfErr r (IsExpected p.world)) (sym tells.0) (inl (inl fails))
 
   module _ (files : Files Memory) where
     abbrev image : Image
@@ -159,12 +164,12 @@ module _ {W : Type 0} (contents : W → Option (List ℕ)) (old new : W) (done :
         let is : done ≡ Err (trouble.Unchecked (reason_of_copy why.error)) = it.told ∙ ap {B = Result (Unit {0}) Trouble} (λ t. Err t) why.is in
         record {
           sound = λ ok. absurd cc;
-          unsound = λ world held right known. subst (λ (r : Result (Unit {0}) Trouble). IfErr r IsWant) (sym is) (elim (why.cause (left_clean why.rest)) [
+          unsound = λ world held right known. subst (λ (r : Result (Unit {0}) Trouble). IfErr r (λ told. IsWant told ⊎ IsTakenName image world told)) (sym is) (inl (elim (why.cause (left_clean why.rest)) [
             | inl memory ↦ rw memory (inl refl)
             | inr (inl (other, none)) ↦ absurd (none (inl (held.trees, held.holds)))
             | inr (inr (inl (kind, more))) ↦ rw kind (reason_wanted (tally_of_files memory_disk (files.log, files.db)) (tally_left why.rest))
             | inr (inr (inr (full, limit))) ↦ rw full (inl refl)
-          ]);
+          ]));
           why = λ finding told. absurd cc;
         }
 

@@ -163,6 +163,7 @@ trouble_told (trouble.Unsound found) none = absurd (omega (arith, none))
 trouble_told (trouble.Unmade why) none = unmade_told why none
 trouble_told trouble.NoFolder none = absurd (omega (arith, none))
 trouble_told (trouble.Lost lost) none = unmade_told lost.why none
+trouble_told (trouble.Unread unread) none = fault_told unread.fault none
 
 -- with status 0 there was no trouble
 whole_at : {W : Type 0} (contents : W → Option (List ℕ)) (old new : W) (done : Result (Unit {0}) Trouble) (status : ℕ) (is_told : Bool) (A : Type 0)

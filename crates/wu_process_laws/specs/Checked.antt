@@ -5,7 +5,7 @@ use Rattle.sqlite.specs.Effect.{Database, IsDatabase}
 use Rattle.sqlite.specs.Files.{AreFoundIn}
 use Rattle.sqlite_wal.specs.Recovery.{Image}
 use Rattle.wu_check.specs.Checking.{HasWholeRows, IsKnown}
-use Rattle.wu_check.specs.Findings.{IsSoundAs, PutsLaterFirst, Tells}
+use Rattle.wu_check.specs.Findings.{IsSoundAs, PutsLaterFirst, Tells, TellsOfSound}
 use Rattle.wu_check.specs.declared.finding.Finding.{Finding}
 use Rattle.wu_core.specs.World.{World}
 use Rattle.wu_core.specs.declared.fault.Fault.TheVariants.{Output}
@@ -43,6 +43,19 @@ pub record IsToldTruly (db : Database) (finding : Finding) : Type 0 where
   pub tells : Tells db finding
   pub later : PutsLaterFirst db finding
 
+-- Opening the files finds a database where something has a name that an upgrade of this sound world gives, and that is
+-- what is found.
+pub record FindsTakenName (image : Image) (world : World) (finding : Finding) : Type 0 where
+  pub db : Database
+  pub found : AreFoundIn image db.trees
+  pub sound : IsDatabase db
+  pub taken : TellsOfSound db.schema world finding
+
+-- The trouble is such a name.
+abbrev pub IsTakenName : Image → World → Trouble → Type 0
+IsTakenName image world (trouble.Unsound finding) = FindsTakenName image world finding
+IsTakenName image world _ = ⊥
+
 -- The trouble is out of memory or a failed output. The store may report memory that runs out as a failed or a damaged
 -- file of the copy.
 abbrev pub IsWant : Trouble → Type 0
@@ -53,9 +66,10 @@ IsWant _ = ⊥
 pub record TellsOfFiles (image : Image) (before after : Option (List ℕ)) (done : Result (Unit {0}) Trouble) : Type 0 where
   -- If `ok` is reported, the files hold a sound project of a known version with the printed numbers.
   pub sound : done ≡ Ok tt → FindsSound image before after
-  -- If the files hold a sound project of a known version, no trouble is reported except out of memory, a failed copy or
-  -- a failed output.
-  pub unsound : (world : World) → HoldsWorld image world → IsSound world → IsKnown world.version → IfErr done IsWant
+  -- If the files hold a sound project of a known version, no trouble is reported except out of memory, a failed copy, a
+  -- failed output, or a name that something has and that its upgrade gives. An upgrade of the present version gives none.
+  pub unsound : (world : World) → HoldsWorld image world → IsSound world → IsKnown world.version
+      → IfErr done (λ told. IsWant told ⊎ IsTakenName image world told)
   -- If something is reported to be wrong, it is wrong.
   pub why : (finding : Finding) → done ≡ Err (trouble.Unsound finding) → FindsWith image (λ db. IsToldTruly db finding)
 

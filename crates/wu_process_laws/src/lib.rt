@@ -73,12 +73,12 @@ pub fn run_and_leave<S: Start, R: BufRead, O: Write, E: Write>(
 }
 
 /// Shows that what a check reports is true of the files that it read: `ok` of a sound project, and else what is
-/// reported to be wrong. Of a sound project nothing is reported to be wrong.
+/// reported to be wrong. Of a sound project nothing is reported but a name that keeps it from an upgrade.
 pub fn a_check_is_true<O: Write>()
     // `ok` means that the files hold a sound project of a known version, with the printed numbers.
     // Of files that hold a sound project a check reports only `ok`, a fault of memory, of its copy
-    // or of the output. What it reports to be wrong is wrong, where no row is shorter than its
-    // table.
+    // or of the output, or a name that something has and its upgrade gives. What it reports to be
+    // wrong is wrong, where no row is shorter than its table.
     ensures { EachCheckIsTrue O.contents }
 {}
 

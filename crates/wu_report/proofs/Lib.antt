@@ -2,9 +2,11 @@ mod DayLemmas
 mod HexLemmas
 mod LineLemmas
 pub mod MarkLemmas
+pub mod MarkedSkips
 pub mod MarkedLines
 mod MomentLemmas
 mod ViewLemmas
 pub mod WritingLemmas
 mod WalkedLemmas
 mod StatusLemmas
+mod SkipLemmas

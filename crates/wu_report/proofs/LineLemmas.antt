@@ -10,8 +10,7 @@ use Rattle.wu_views.specs.declared.lines.ResultLine.{ResultLine}
 use Rattle.wu_views.specs.declared.lines.HostLine.{HostLine}
 use Rattle.wu_views.specs.declared.lines.Summary.{Summary}
 use Rattle.wu_views.specs.declared.lines.WorkunitLine.{WorkunitLine}
-use Rattle.wu_views.specs.declared.waiting.DueLine.{DueLine}
-use Rattle.wu_report.specs.Texts.{applied_count, archived_line, bytes_text, class_line, counted, due_line, host_line, import_line, line_end, moment_text, number_or_dash, or_dash, pass_word, result_line, summary_lines, workunit_line}
+use Rattle.wu_report.specs.Texts.{applied_count, archived_line, bytes_text, class_line, counted, host_line, import_line, line_end, moment_text, next_line, number_or_dash, or_dash, result_line, summary_lines, workunit_line}
 
 -- the pieces of a workunit's line
 abbrev pub workunit_pieces : (number : ℕ) (name : List ℕ) (input quorum target errors total successes delay credit mask : ℕ) (canonical : Option ℕ) (assimilate delete : List ℕ) (done : Option ℕ) (class : ℕ) → List ℕ
@@ -62,9 +61,13 @@ pub class_pieces-are : (it : HostClass) (host : List ℕ) (class : ℕ) → host
     → class_line it ≡ host ++ (codes " class=" ++ (decimal class ++ (codes "\n" ++ [])))
 class_pieces-are it host class e1 e2 = rw (e1, e2) (simp append_assoc)
 
--- those of the line of a pass
-pub due_pieces-are : (it : DueLine) (word : List ℕ) → word ≡ pass_word it.pass → due_line it ≡ word ++ (codes " " ++ (decimal it.count ++ (codes "\n" ++ [])))
-due_pieces-are it word e = rw e (simp append_assoc)
+-- those of the line of a word and a number
+pub counted_pieces-are : (word : List ℕ) (n : ℕ) → counted word n ≡ word ++ (codes " " ++ (decimal n ++ (codes "\n" ++ [])))
+counted_pieces-are word n = simp append_assoc
+
+-- those of the line of the next deadline
+pub next_pieces-are : (deadline : Option ℕ) → next_line deadline ≡ codes "next_deadline " ++ (or_dash moment_text deadline ++ (codes "\n" ++ []))
+next_pieces-are deadline = simp append_assoc
 
 -- those of an import's
 pub import_pieces-are : (it : ImportLine) (word name verdicts : List ℕ) (applied : ℕ) (first : List ℕ)

@@ -1,7 +1,7 @@
 -- No line of a view begins with '=': the parts of its lines, its lines, and its text.
-use Rattle.std.proofs.Common.{◌≡◌, ℕ, ◌+◌, ◌/◌, ◌%◌, ◌==◌, Bool, true, false, cond, ◌&&◌, List, [], ◌∷◌, ◌++◌, map, All, Option, Some, None, decimal, append_assoc, refl}
+use Rattle.std.proofs.Common.{◌∙◌, ap, ◌≡◌, ℕ, ◌+◌, ◌/◌, ◌%◌, ◌==◌, Bool, true, false, cond, ◌&&◌, List, [], ◌∷◌, ◌++◌, map, All, Option, Some, None, decimal, append_assoc, refl, bytes_eq}
 use Rattle.std.proofs.lemmas.Bool.{and_from}
-use Rattle.std.proofs.lemmas.List.Elements.{All-append, All-cons, All-from_recursion, All-head, All-map, All-nil, All-tail, recursion_from_All}
+use Rattle.std.proofs.lemmas.List.Elements.{All-append, All-cons, All-filter, All-from_recursion, All-head, All-map, All-nil, All-tail, recursion_from_All}
 use Rattle.std.specs.List.{enumerate_from, flat_map, list_all}
 use Rattle.std.specs.Prelude.{codes, ⊤}
 use Rattle.hex.specs.Hex.{encode_lower, encode_with, lower_digits}
@@ -31,17 +31,20 @@ use Rattle.wu_views.specs.declared.lines.ResultLine.{ResultLine}
 use Rattle.wu_views.specs.declared.lines.Summary.{Summary}
 use Rattle.wu_views.specs.declared.lines.WorkunitLine.{WorkunitLine}
 use Rattle.wu_views.specs.declared.waiting.DueLine.{DueLine}
-use Rattle.wu_views.specs.Waiting.{due_lines}
+use Rattle.wu_views.specs.declared.waiting.StatusLine.{StatusLine}
+use Rattle.wu_views.specs.declared.waiting.StatusLine.TheVariants as status
+use Rattle.wu_views.specs.Waiting.{status_lines}
 use Rattle.wu_rules.specs.declared.due.Pass.{Pass}
 use Rattle.wu_rules.specs.declared.due.Pass.TheVariants as pass
 use Rattle.wu_views.specs.Imports.{imports_in_order}
 use Rattle.wu_views.proofs.ImportLemmas.{each_in_order}
-use Rattle.wu_views.specs.Lines.{archived_lines, class_lines, host_line_of, host_lines, import_line_of, import_lines, line_of, result_line_of, result_lines, result_lines_of, summary_of, workunit_lines}
+use Rattle.wu_views.specs.Lines.{archived_lines, AreImportsStorable, class_lines, host_line_of, host_lines, import_line_of, import_lines, import_lines_named, line_of, result_line_of, result_lines, result_lines_of, summary_of, workunit_lines}
 use Rattle.wu_machine.specs.declared.view.View.{View}
 use Rattle.wu_machine.specs.declared.view.View.TheVariants as view
 use Rattle.wu_report.specs.Marks.{HasValidNames}
-use Rattle.wu_report.specs.Texts.{archived_line, bytes_text, class_line, counted, due_line, host_line, import_line, moment_text, number_or_dash, or_dash, pass_word, result_line, summary_lines, view_text, workunit_line}
+use Rattle.wu_report.specs.Texts.{archived_line, bytes_text, class_line, counted, due_line, host_line, import_line, line_end, moment_text, next_line, number_or_dash, or_dash, pass_word, result_line, status_line, summary_lines, view_text, workunit_line, import_detail, skip_lines, skip_word}
 use Rattle.wu_report.specs.Views.{CanBeShown}
+use Rattle.wu_report.proofs.MarkedSkips.{skip_inside, skips_whole}
 use Rattle.wu_report.proofs.MarkLemmas.{begun, both_true, begun_decimal, begun_name, digit_inside, IsFront, is_front, IsInside, is_inside, is_unmarked, IsWhole, past, past_decimal, past_name, read_inside, whole_append, whole_flat_map}
 
 -- ---- parts
@@ -150,11 +153,26 @@ class_whole it named rest = simp (append_assoc, begun_name it.host named, past_d
 import_whole : (it : ImportLine) → IsName it.name → IsWhole (import_line it)
 import_whole it named rest = simp (append_assoc, begun_kind, past_name it.name named, past_decimal, past_number)
 
+detail_whole : (it : ImportLine) → IsName it.name → IsWhole (import_detail it)
+detail_whole it named = whole_append (import_line it) (skip_lines (skip_word it.kind) it.verdicts) (import_whole it named) (skips_whole (skip_word it.kind) (skip_inside it.kind) it.verdicts)
+
 due_whole : (it : DueLine) → IsWhole (due_line it)
 due_whole it rest = simp (append_assoc, begun_pass, past_decimal)
 
 counted_whole : (word : List ℕ) → IsFront word → IsInside word → (n : ℕ) → IsWhole (counted word n)
 counted_whole word front inside n rest = simp (append_assoc, begun word front inside, past_decimal)
+
+next_whole : (deadline : Option ℕ) → IsWhole (next_line deadline)
+next_whole deadline rest =
+    begun (codes "next_deadline ") refl refl ((or_dash moment_text deadline ++ line_end) ++ rest)
+    ∙ ap (λ text. is_unmarked false text) (append_assoc (or_dash moment_text deadline) line_end rest) ∙ past_moment deadline (line_end ++ rest)
+
+status_whole : (it : StatusLine) → IsWhole (status_line it)
+status_whole (status.Due it) = due_whole it
+status_whole (status.Undecided n) = counted_whole (codes "undecided") refl refl n
+status_whole (status.GivenUp n) = counted_whole (codes "given_up") refl refl n
+status_whole (status.Overdue n) = counted_whole (codes "overdue") refl refl n
+status_whole (status.NextDeadline deadline) = next_whole deadline
 
 -- the text, and the lines of a summary after it, each by its word and its number
 abbrev with_counts : List ℕ → List (List ℕ × ℕ) → List ℕ
@@ -197,7 +215,8 @@ view_whole world view.Hosts named = whole_flat_map (λ (host : HostLine). IsName
 view_whole world view.Archive named = whole_flat_map (λ (row : Archived). IsName row.name) archived_line archived_whole (archived_lines world) named
 view_whole world view.Summary named = summary_whole (summary_of world)
 view_whole world view.Imports named = whole_flat_map (λ (it : ImportLine). IsName it.name) import_line import_whole (import_lines world) named
-view_whole world (view.Status now) named = whole_flat_map (λ (it : DueLine). ⊤) due_line (λ it is. due_whole it) (due_lines now world) (λ k d within. tt)
+view_whole world (view.Import name) named = whole_flat_map (λ (it : ImportLine). IsName it.name) import_detail detail_whole (import_lines_named name world) named
+view_whole world (view.Status now) named = whole_flat_map (λ (it : StatusLine). ⊤) status_line (λ it is. status_whole it) (status_lines now world) (λ k d within. tt)
 view_whole world view.Classes named = whole_flat_map (λ (it : HostClass). IsName it.host) class_line class_whole (class_lines world) named
 
 -- ---- names of what can be read
@@ -224,14 +243,18 @@ results_named (w ∷ workunits) all =
 abbrev IsImportNamed : Import → Type 0
 IsImportNamed import = IsName import.name
 
+imports_named : (world : World) → AreImportsStorable world → All (λ (it : ImportLine). IsName it.name) (import_lines world)
+imports_named world shown =
+    All-map (λ (it : ImportLine). IsName it.name) import_line_of (imports_in_order world.imports)
+    (All-from_recursion IsImportNamed (imports_in_order world.imports) (each_in_order IsImportNamed world.imports (recursion_from_All IsImportNamed world.imports (λ k d within. (shown k d within).name))))
+
 pub names_valid : (world : World) (v : View) → CanBeShown world v → HasValidNames world v
 names_valid world view.Workunits shown = All-map (λ (w : WorkunitLine). IsName w.name) line_of world.workunits (λ k d within. (shown k d within).row.name)
 names_valid world view.Results shown = results_named world.workunits shown
 names_valid world view.Hosts shown = All-map (λ (host : HostLine). IsName host.name) (host_line_of world.grants) (hosts_of world.grants) shown
 names_valid world view.Archive shown = λ k d within. (shown k d within).name
 names_valid world view.Summary shown = tt
+names_valid world (view.Import name) shown = All-filter (λ (it : ImportLine). bytes_eq it.name name) (λ it. IsName it.name) (import_lines world) (imports_named world shown)
 names_valid world (view.Status now) shown = tt
 names_valid world view.Classes shown = λ k d within. (shown k d within).host
-names_valid world view.Imports shown =
-    All-map (λ (it : ImportLine). IsName it.name) import_line_of (imports_in_order world.imports)
-    (All-from_recursion IsImportNamed (imports_in_order world.imports) (each_in_order IsImportNamed world.imports (recursion_from_All IsImportNamed world.imports (λ k d within. (shown k d within).name))))
+names_valid world view.Imports shown = imports_named world shown

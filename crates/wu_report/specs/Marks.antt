@@ -9,7 +9,7 @@ use Rattle.wu_views.specs.declared.lines.HostLine.{HostLine}
 use Rattle.wu_views.specs.declared.lines.ImportLine.{ImportLine}
 use Rattle.wu_views.specs.declared.lines.ResultLine.{ResultLine}
 use Rattle.wu_views.specs.declared.lines.WorkunitLine.{WorkunitLine}
-use Rattle.wu_views.specs.Lines.{archived_lines, class_lines, host_lines, import_lines, result_lines, workunit_lines}
+use Rattle.wu_views.specs.Lines.{archived_lines, class_lines, host_lines, import_lines, import_lines_named, result_lines, workunit_lines}
 use Rattle.wu_machine.specs.declared.view.View.{View}
 use Rattle.wu_machine.specs.declared.view.View.TheVariants as view
 use Rattle.wu_report.specs.Texts.{view_text}
@@ -32,6 +32,7 @@ HasValidNames world view.Archive = All (λ (row : Archived). IsName row.name) (a
 HasValidNames world view.Summary = ⊤
 HasValidNames world view.Classes = All (λ (it : HostClass). IsName it.host) (class_lines world)
 HasValidNames world view.Imports = All (λ (line : ImportLine). IsName line.name) (import_lines world)
+HasValidNames world (view.Import name) = All (λ (line : ImportLine). IsName line.name) (import_lines_named name world)
 HasValidNames world (view.Status now) = ⊤
 
 -- If the names in a view are valid, no line of its text begins with '='.

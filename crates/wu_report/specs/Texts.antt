@@ -1,9 +1,12 @@
 -- The texts of views, as functions of values. Each line ends with a line feed.
-use Rattle.std.specs.Prelude.{ℕ, ◌+◌, ◌-◌, ◌/◌, ◌%◌, ◌==◌, pos, int_le, if◌then◌else◌, List, [], ◌∷◌, ◌++◌, length, flat_map, count_by, codes, unsigned_abs, Option, Some, None}
+use Rattle.std.specs.Prelude.{ℕ, ◌+◌, ◌-◌, ◌/◌, ◌%◌, ◌==◌, pos, int_le, if◌then◌else◌, List, [], ◌∷◌, ◌++◌, length, find, flat_map, count_by, codes, unsigned_abs, Option, Some, None}
 use Rattle.std.specs.Fmt.{decimal}
-use Rattle.std.specs.List.{range_with_len}
+use Rattle.std.specs.List.{enumerate_from, range_with_len}
+use Rattle.std.specs.Option.{option_map_or}
 use Rattle.hex.specs.Hex.{encode_lower}
 use Rattle.jiff_core.specs.Calendar.{days_from_civil}
+use Rattle.wu_core.specs.declared.import.ImportKind.{ImportKind}
+use Rattle.wu_core.specs.declared.import.ImportKind.TheVariants as kind
 use Rattle.wu_core.specs.declared.workunit.Archived.{Archived}
 use Rattle.wu_core.specs.declared.workunit.HostClass.{HostClass}
 use Rattle.wu_core.specs.Mask.{error_mask_code}
@@ -15,10 +18,17 @@ use Rattle.wu_views.specs.declared.lines.ResultLine.{ResultLine}
 use Rattle.wu_views.specs.declared.lines.Summary.{Summary}
 use Rattle.wu_views.specs.declared.lines.WorkunitLine.{WorkunitLine}
 use Rattle.wu_views.specs.declared.waiting.DueLine.{DueLine}
-use Rattle.wu_views.specs.Waiting.{due_lines}
+use Rattle.wu_views.specs.declared.waiting.StatusLine.{StatusLine}
+use Rattle.wu_views.specs.declared.waiting.StatusLine.TheVariants as status
+use Rattle.wu_views.specs.Waiting.{status_lines}
+use Rattle.wu_rules.specs.Verdicts.{report_verdict_code, report_verdict_word, send_verdict_code, send_verdict_word}
+use Rattle.wu_rules.specs.declared.verdicts.ReportVerdict.{ReportVerdict}
+use Rattle.wu_rules.specs.declared.verdicts.ReportVerdict.TheVariants as report
+use Rattle.wu_rules.specs.declared.verdicts.SendVerdict.{SendVerdict}
+use Rattle.wu_rules.specs.declared.verdicts.SendVerdict.TheVariants as send
 use Rattle.wu_rules.specs.declared.due.Pass.{Pass}
 use Rattle.wu_rules.specs.declared.due.Pass.TheVariants.{Transition, Validate, Assimilate, Delete, Purge}
-use Rattle.wu_views.specs.Lines.{archived_lines, class_lines, host_lines, import_lines, result_lines, summary_of, workunit_lines}
+use Rattle.wu_views.specs.Lines.{archived_lines, class_lines, host_lines, import_lines, import_lines_named, result_lines, summary_of, workunit_lines}
 use Rattle.wu_machine.specs.declared.view.View.{View}
 use Rattle.wu_machine.specs.declared.view.View.TheVariants as view
 
@@ -125,6 +135,46 @@ import_line it =
     ++ codes " skipped=" ++ decimal (length it.verdicts - applied_count it.verdicts)
     ++ codes " first=" ++ number_or_dash it.first_number ++ line_end
 
+-- The verdict on a row of sends that has this number, or `None`.
+abbrev pub send_verdict_numbered : ℕ → Option SendVerdict
+send_verdict_numbered number =
+    find (λ verdict. send_verdict_code verdict == number) (send.Applied ∷ send.Unknown ∷ send.NotUnsent ∷ send.SameHost ∷ send.Class ∷ [])
+
+-- The verdict on a row of reports that has this number, or `None`.
+abbrev pub report_verdict_numbered : ℕ → Option ReportVerdict
+report_verdict_numbered number =
+    find (λ verdict. report_verdict_code verdict == number)
+    (report.Applied ∷ report.Unknown ∷ report.NotSent ∷ report.WrongHost ∷ report.BeforeSent ∷ report.Over ∷ [])
+
+-- Why a row of sends was skipped, by the number of its verdict; `None` if it was applied.
+abbrev pub send_skip_word : ℕ → Option (List ℕ)
+send_skip_word number = option_map_or send_verdict_word (send_verdict_numbered number) None
+
+-- Why a row of reports was skipped, by the number of its verdict; `None` if it was applied.
+abbrev pub report_skip_word : ℕ → Option (List ℕ)
+report_skip_word number = option_map_or report_verdict_word (report_verdict_numbered number) None
+
+-- Why a row of a file of this kind was skipped, by the number of its verdict; `None` if it was applied. Each row of a
+-- batch and of classes is applied.
+abbrev pub skip_word : ImportKind → ℕ → Option (List ℕ)
+skip_word kind.Batch number = None
+skip_word kind.Sent number = send_skip_word number
+skip_word kind.Reported number = report_skip_word number
+skip_word kind.Classes number = None
+
+-- The line of a skipped row; no text for an applied one.
+abbrev pub skip_line : (ℕ → Option (List ℕ)) → ℕ × ℕ → List ℕ
+skip_line word row =
+    option_map_or (λ why. codes "  row " ++ decimal row.0 ++ codes ": " ++ why ++ line_end) (word row.1) []
+
+-- A line for each skipped row; the first row after the header is row 2.
+abbrev pub skip_lines : (ℕ → Option (List ℕ)) → List ℕ → List ℕ
+skip_lines word verdicts = flat_map (skip_line word) (enumerate_from 2 verdicts)
+
+-- The line of an import, and a line for each row of it that was skipped.
+abbrev pub import_detail : ImportLine → List ℕ
+import_detail it = import_line it ++ skip_lines (skip_word it.kind) it.verdicts
+
 abbrev pub counted : List ℕ → ℕ → List ℕ
 counted word n = word ++ codes " " ++ decimal n ++ line_end
 
@@ -139,6 +189,18 @@ pass_word Purge = codes "purge"
 -- The line of a pass: how many workunits wait for it.
 abbrev pub due_line : DueLine → List ℕ
 due_line it = counted (pass_word it.pass) it.count
+
+-- The line of the earliest deadline that is still awaited.
+abbrev pub next_line : Option ℕ → List ℕ
+next_line deadline = codes "next_deadline " ++ or_dash moment_text deadline ++ line_end
+
+-- A line on what is open.
+abbrev pub status_line : StatusLine → List ℕ
+status_line (status.Due it) = due_line it
+status_line (status.Undecided n) = counted (codes "undecided") n
+status_line (status.GivenUp n) = counted (codes "given_up") n
+status_line (status.Overdue n) = counted (codes "overdue") n
+status_line (status.NextDeadline deadline) = next_line deadline
 
 -- The twelve lines of a summary.
 abbrev pub summary_lines : Summary → List ℕ
@@ -165,4 +227,5 @@ view_text world view.Archive = flat_map archived_line (archived_lines world)
 view_text world view.Summary = summary_lines (summary_of world)
 view_text world view.Classes = flat_map class_line (class_lines world)
 view_text world view.Imports = flat_map import_line (import_lines world)
-view_text world (view.Status now) = flat_map due_line (due_lines now world)
+view_text world (view.Import name) = flat_map import_detail (import_lines_named name world)
+view_text world (view.Status now) = flat_map status_line (status_lines now world)

@@ -58,7 +58,8 @@ CanBeShown world view.Archive = IsArchiveStorable world
 CanBeShown world view.Summary = IsCountable world
 CanBeShown world view.Classes = AreClassed world.classes
 CanBeShown world view.Imports = AreImportsStorable world
-CanBeShown world (view.Status now) = ⊤
+CanBeShown world (view.Import name) = AreImportsStorable world
+CanBeShown world (view.Status now) = AreStorable world
 
 -- On a clean disk and without a limit on steps, no read is refused over such a world.
 abbrev pub UnrefusedWhere : {S T : Type 0} {store : Ghosts S} → (World → Type 0) → Project S store → Project S store → Result T Fault → Type 0

@@ -5,7 +5,7 @@ ghost use Rattle.wu_core.specs.declared.states.ValidateState.TheVariants.{Invali
 ghost use Rattle.wu_core.specs.World.{empty_world};
 ghost use Rattle.wu_core.specs.Workunit.{fresh};
 ghost use Rattle.wu_rules.specs.Examples.{h1, out, success};
-ghost use Rattle.wu_machine.specs.declared.view.View.TheVariants.{Archive, Classes, Hosts, Imports, Results, Summary, Workunits};
+ghost use Rattle.wu_machine.specs.declared.view.View.TheVariants.{Archive, Classes, Hosts, Import, Imports, Results, Summary, Workunits};
 ghost use Rattle.wu_report.specs.Examples.{after_a_batch, decided_row, given_up_row, holding, job_having, archiving, first_job, three_grants, three_hosts, three_imports};
 ghost use Rattle.wu_report.specs.Texts.{moment_text, view_text};
 
@@ -73,6 +73,19 @@ pub fn prints_imports()
         ≡ codes "batch b1 rows=2 applied=2 skipped=0 first=1\n"
         ++ codes "batch b2 rows=0 applied=0 skipped=0 first=-\n"
         ++ codes "sent a rows=3 applied=2 skipped=1 first=-\n" }
+{}
+
+/// Shows the imports of one name, in order of their kinds, each with its skipped rows.
+pub fn prints_imports_of_a_name()
+    // Below the line of an import is one for each row that was skipped, with why it was.
+    ensures of_sends { view_text three_imports (Import (codes "a"))
+        ≡ codes "sent a rows=3 applied=2 skipped=1 first=-\n"
+        ++ codes "  row 3: same_host\n" }
+    // An import without a skipped row has its line alone.
+    ensures of_a_batch { view_text three_imports (Import (codes "b1"))
+        ≡ codes "batch b1 rows=2 applied=2 skipped=0 first=1\n" }
+    // Of a name that no import has, nothing is printed.
+    ensures of_none { view_text three_imports (Import (codes "b")) ≡ [] }
 {}
 
 /// Shows the line of an archived workunit that was given up, and of one whose output has two bytes.

@@ -5,9 +5,11 @@ pub mod examples;
 pub mod laws;
 mod lines;
 mod output;
+mod skips;
 mod views;
 
 pub use lines::{applied_count, number_or_dash, pass_word};
 pub use output::{Piece, flush, write_pieces};
+pub use skips::write_skips;
 pub use views::show;
 pub use wu_machine::View;

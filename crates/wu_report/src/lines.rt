@@ -2,14 +2,14 @@
 
 ghost use Rattle.std.specs.Prelude.{◌≡◌, IsOkUnless};
 ghost use Rattle.wu_core.specs.declared.fault.Fault.TheVariants.{Output};
-ghost use Rattle.wu_report.specs.Texts.{applied_count, bytes_text, number_or_dash, or_dash, pass_word, summary_lines};
+ghost use Rattle.wu_report.specs.Texts.{applied_count, bytes_text, counted, next_line, number_or_dash, or_dash, pass_word, summary_lines};
 ghost use Rattle.wu_report.specs.Writing.{CutsWhatFails, piece_text, WritesTo};
 
 use crate::output::{Piece, Printed, write_pieces};
 use std::io::Write;
-use wu_core::{Archived, Bytes, Fault, HostClass, Name};
+use wu_core::{Archived, Bytes, Deadline, Fault, HostClass, Name};
 use wu_rules::Pass;
-use wu_views::{DueLine, HostLine, ImportLine, ResultLine, Summary, WorkunitLine};
+use wu_views::{HostLine, ImportLine, ResultLine, StatusLine, Summary, WorkunitLine};
 
 impl Printed for WorkunitLine {
     ghost use Rattle.wu_report.specs.Texts.{workunit_line};
@@ -241,21 +241,52 @@ pub fn pass_word(pass: Pass) -> &'static str
     }
 }
 
-impl Printed for DueLine {
-    ghost use Rattle.wu_report.specs.Texts.{due_line};
+/// Writes a word and a number, as a line.
+fn write_counted<W: Write>(out: &mut W, word: &str, number: u64) -> Result<(), Fault>
+    ensures bytes { WritesTo W.contents out.old out.new (counted word.now number) result }
+    ensures cut { CutsWhatFails W.contents out.old out.new (counted word.now number) result }
+    ensures fault { IsOkUnless result Output }
+{
+    write_pieces(
+        out,
+        &[
+            Piece::Text(word),
+            Piece::Text(" "),
+            Piece::Number(number),
+            Piece::Text("\n"),
+        ],
+    )
+}
 
-    ghost text = { due_line };
+/// Writes the earliest deadline that is still awaited, as a line.
+fn write_next<W: Write>(out: &mut W, deadline: Option<Deadline>) -> Result<(), Fault>
+    ensures bytes { WritesTo W.contents out.old out.new (next_line deadline) result }
+    ensures cut { CutsWhatFails W.contents out.old out.new (next_line deadline) result }
+    ensures fault { IsOkUnless result Output }
+{
+    write_pieces(
+        out,
+        &[
+            Piece::Text("next_deadline "),
+            Piece::Due(deadline),
+            Piece::Text("\n"),
+        ],
+    )
+}
+
+impl Printed for StatusLine {
+    ghost use Rattle.wu_report.specs.Texts.{status_line};
+
+    ghost text = { status_line };
 
     fn write<W: Write>(&self, out: &mut W) -> Result<(), Fault> {
-        write_pieces(
-            out,
-            &[
-                Piece::Text(pass_word(self.pass)),
-                Piece::Text(" "),
-                Piece::Number(self.count),
-                Piece::Text("\n"),
-            ],
-        )
+        match self {
+            StatusLine::Due(due) => write_counted(out, pass_word(due.pass), due.count),
+            StatusLine::Undecided(number) => write_counted(out, "undecided", *number),
+            StatusLine::GivenUp(number) => write_counted(out, "given_up", *number),
+            StatusLine::Overdue(number) => write_counted(out, "overdue", *number),
+            StatusLine::NextDeadline(deadline) => write_next(out, *deadline),
+        }
     }
 }
 

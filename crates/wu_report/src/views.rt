@@ -7,10 +7,11 @@ ghost use Rattle.wu_report.specs.Views.{CanBeShown, CountsShown, WritesView};
 
 use crate::lines::write_summary;
 use crate::output::{Printed, flush, write_all};
+use crate::skips::write_details;
 use sqlite::Alter;
 use std::alloc::Global;
 use std::io::Write;
-use wu_core::{Fault, Moment};
+use wu_core::{Fault, Moment, Name};
 use wu_machine::View;
 use wu_passes::{Project, Takes};
 use wu_views::{
@@ -71,37 +72,54 @@ fn write_counts<S: Alter, W: Write>(project: &mut Project<S>, out: &mut W) -> Re
     write_summary(out, &summary)
 }
 
-/// Writes a line for each pass, with the number of workunits that wait for it. Only `Broken` ends the session.
-fn write_due<S: Alter, W: Write>(
+/// Writes what is open at a moment, line by line. Only `Broken` ends the session.
+fn write_status<S: Alter, W: Write>(
     alloc: Global,
     project: &mut Project<S>,
     now: Moment,
     out: &mut W,
 ) -> Result<(), Fault>
-    // Of a world with classes the lines of its passes are written: all, or a prefix with a fault,
+    // Of a world with classes the lines of its status are written: all, or a prefix with a fault,
     // and with `Output` not all.
     ensures { WritesView W.Write.contents project.old project.new out.old out.new
         (λ world. view_text world (View.Status now))
         (λ world. CanBeShown world (View.Status now)) result }
 {
-    let lines = project.due_lines(alloc, now)?;
+    let lines = project.status_lines(alloc, now)?;
     write_all(out, lines.as_slice())
+}
+
+/// Writes the imports of this name, each with its skipped rows. Only `Broken` ends the session.
+fn write_imports<S: Alter, W: Write>(
+    alloc: Global,
+    project: &mut Project<S>,
+    name: &Name,
+    out: &mut W,
+) -> Result<(), Fault>
+    // Of a world with classes the lines of its imports are written: all, or a prefix with a fault,
+    // and with `Output` not all.
+    ensures { WritesView W.Write.contents project.old project.new out.old out.new
+        (λ world. view_text world (View.Import name.now))
+        (λ world. CanBeShown world (View.Import name.now)) result }
+{
+    let lines = project.imports_named(alloc, name)?;
+    write_details(out, lines.as_slice())
 }
 
 /// Writes the lines of a view.
 fn write_view<S: Alter, W: Write>(
     alloc: Global,
     project: &mut Project<S>,
-    view: View,
+    view: &View,
     out: &mut W,
 ) -> Result<(), Fault>
     // Of a world with classes the lines of its view are written: all, or a prefix with a fault, and
     // with `Output` not all.
     ensures written { WritesView W.Write.contents project.old project.new out.old out.new
-        (λ world. view_text world view) (λ world. CanBeShown world view) result }
+        (λ world. view_text world view.now) (λ world. CanBeShown world view.now) result }
     // Whatever the tables hold, a summary that is written counts every row of instances and of
     // grants.
-    ensures counted { view ≡ View.Summary
+    ensures counted { view.now ≡ View.Summary
         → CountsShown W.Write.contents project.old project.new out.old out.new result }
 {
     match view {
@@ -112,7 +130,8 @@ fn write_view<S: Alter, W: Write>(
         View::Summary => write_counts(project, out),
         View::Classes => write_listing::<S, ClassListing, W>(alloc, project, out),
         View::Imports => write_listing::<S, ImportListing, W>(alloc, project, out),
-        View::Status(now) => write_due(alloc, project, now, out),
+        View::Import(name) => write_imports(alloc, project, name, out),
+        View::Status(now) => write_status(alloc, project, *now, out),
     }
 }
 
@@ -124,7 +143,7 @@ fn write_view<S: Alter, W: Write>(
 pub fn show<S: Alter, W: Write>(
     alloc: Global,
     project: &mut Project<S>,
-    view: View,
+    view: &View,
     out: &mut W,
 ) -> Result<(), Fault>
     // The lines of the world's view go out: all, or a prefix with a fault. After the end of a
@@ -135,7 +154,7 @@ pub fn show<S: Alter, W: Write>(
     // that the disk failed in this call, or that the connection was not open. An open connection
     // stays open, except after `Memory` and `Broken`. Whatever the tables hold, a summary counts
     // every row of instances and of grants.
-    ensures { Sees W.contents project.old project.new out.old out.new view result }
+    ensures { Sees W.contents project.old project.new out.old out.new view.now result }
 {
     match write_view(alloc, project, view, out) {
         Ok(()) => flush(out),

@@ -46,7 +46,8 @@ shown world sound present view.Hosts = hosts_have IsName world.grants sound.gran
 shown world sound present view.Archive = sound.archivable
 shown world sound present view.Classes = sound.classed
 shown world sound present view.Imports = imports_storable world sound
-shown world sound present (view.Status now) = tt
+shown world sound present (view.Import name) = imports_storable world sound
+shown world sound present (view.Status now) = sound.storable
 shown world sound present view.Summary = record {
   numbers = record { version = omega (arith, present); next = sound.next_number };
   credit = (let few = bounded_credit world.grants (placed world sound) sound.granted_once in omega (arith, few));
@@ -61,6 +62,7 @@ names_sound world sound view.Archive = names_valid world view.Archive sound.arch
 names_sound world sound view.Classes = names_valid world view.Classes sound.classed
 names_sound world sound view.Imports = names_valid world view.Imports (imports_storable world sound)
 names_sound world sound view.Summary = tt
+names_sound world sound (view.Import name) = names_valid world (view.Import name) (imports_storable world sound)
 names_sound world sound (view.Status now) = tt
 
 pub unmarked : (world : World) → IsSound world → (v : View) → NoLineBeginsWith equals_sign (view_text world v)

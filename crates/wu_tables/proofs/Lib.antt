@@ -3,3 +3,4 @@ mod TermLemmas
 mod FoundLemmas
 mod AgainstLemmas
 mod OrderLemmas
+pub mod UpgradeLemmas

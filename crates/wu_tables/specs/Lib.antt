@@ -1,3 +1,4 @@
 pub mod Forms
 pub mod Found
 pub mod Known
+pub mod Upgrades

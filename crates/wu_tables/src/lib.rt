@@ -1,4 +1,4 @@
-//! Whether the tables of a project are in a schema as the program makes them.
+//! Whether the tables of a project are in a schema as the program makes them, and whether an upgrade can make more.
 #![tactic(auto)]
 
 mod compare;
@@ -7,7 +7,9 @@ mod known;
 mod lookup;
 mod project;
 mod queue;
+mod upgrades;
 
 pub use known::ProjectTable;
 pub use project::{Misfit, Trees, project_trees};
 pub use queue::queue_tree;
+pub use upgrades::taken_name;

@@ -14,3 +14,5 @@ mod ListLines
 mod WalkLemmas
 mod CountWalks
 pub mod WaitingLemmas
+mod TallyLemmas
+mod NamedLemmas

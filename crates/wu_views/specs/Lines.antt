@@ -1,8 +1,10 @@
 -- What the views show of a world, line by line, and its summary.
-use Rattle.std.specs.Prelude.{ℕ, ◌<◌, ◌≤◌, ◌^◌, All, List, [], ◌∷◌, ◌++◌, length, map, sum_by, count_by}
+use Rattle.std.specs.Prelude.{◌≡◌, ℕ, ◌<◌, ◌≤◌, ◌^◌, All, List, [], ◌∷◌, ◌++◌, length, map, sum_by, count_by, filter, find, bytes_eq, Option, option_map, Result, IfOk, Vec}
 use Rattle.std.specs.List.{enumerate_from, flat_map}
 use Rattle.sqlite.specs.Order.{Row}
 use Rattle.sqlite.specs.declared.types.Value.TheVariants.{Text}
+use Rattle.wu_core.specs.declared.fault.Fault.{Fault}
+use Rattle.wu_core.specs.declared.import.ImportKind.{ImportKind}
 use Rattle.wu_core.specs.declared.workunit.Archived.{Archived}
 use Rattle.wu_core.specs.declared.workunit.Grant.{Grant}
 use Rattle.wu_core.specs.declared.workunit.HostClass.{HostClass}
@@ -13,9 +15,10 @@ use Rattle.wu_core.specs.Mask.{error_mask_code}
 use Rattle.wu_core.specs.Limits.{longest_input, longest_output}
 use Rattle.wu_core.specs.Parameters.{IsParameters}
 use Rattle.wu_core.specs.Hosts.{credit_of, grants_of, hosts_of}
-use Rattle.wu_core.specs.World.{Import, World}
+use Rattle.wu_core.specs.World.{Import, World, is_import}
 use Rattle.wu_rules.specs.Instances.{is_in_progress, is_over, is_unsent}
 use Rattle.wu_schema.specs.Reading.{kind_cell, verdicts_cell}
+use Rattle.wu_schema.specs.declared.rows.StoredImport.{StoredImport}
 use Rattle.wu_schema.specs.Stored.{host_cells, number, number_or_null, parameter_cells, text_or_null}
 use Rattle.wu_core.specs.Storable.{AreVerdicts, IsClass, IsName, IsPlace, IsStamped, IsStoredInstance}
 use Rattle.wu_views.specs.Counting.{all_instances}
@@ -106,6 +109,22 @@ import_line_of import = record { kind = import.kind; name = import.name; first_n
 -- The lines of the imports, in order of kind and of the bytes of their names.
 abbrev pub import_lines : World → List ImportLine
 import_lines world = map import_line_of (imports_in_order world.imports)
+
+-- The line of the import of this kind and name, or `None` if there is none.
+abbrev pub import_line_named : ImportKind → List ℕ → World → Option ImportLine
+import_line_named kind name world = option_map import_line_of (find (is_import kind name) world.imports)
+
+-- The lines of the imports of this name, in order of kind.
+abbrev pub import_lines_named : List ℕ → World → List ImportLine
+import_lines_named name world = filter (λ it. bytes_eq it.name name) (import_lines world)
+
+-- The lines of the imports of this name are found.
+abbrev pub FindsLinesNamed : {A : Type 0} → List ℕ → Result (Vec ImportLine A) Fault → World → Type 0
+FindsLinesNamed name result world = IfOk result (λ found. found.items ≡ import_lines_named name world)
+
+-- The line of what is stored of an import of this kind and name.
+abbrev pub stored_line : ImportKind → List ℕ → StoredImport → ImportLine
+stored_line kind name stored = record { kind = kind; name = name; first_number = stored.first_number; verdicts = stored.verdicts }
 
 -- ---- the summary
 

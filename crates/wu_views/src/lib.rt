@@ -7,7 +7,9 @@
 mod counts;
 mod lines;
 mod listings;
+mod named;
 mod questions;
+mod tallies;
 mod texts;
 mod waiting;
 mod walking;
@@ -18,5 +20,6 @@ pub use listings::{
     ArchiveListing, ClassListing, HostListing, ImportListing, Listing, ResultListing,
     WorkunitListing,
 };
-pub use waiting::{DueLine, due_lines};
+pub use named::import_lines_named;
+pub use waiting::{DueLine, StatusLine, status_lines};
 pub use walking::{Takes, walk};

@@ -1,13 +1,16 @@
 //! What waits for the passes of a project.
 
-ghost use Rattle.std.specs.Prelude.{⊤};
-ghost use Rattle.wu_views.specs.Waiting.{due_count, FindsDueLines};
+ghost use Rattle.std.specs.Prelude.{◌≡◌, ◌++◌, IfErr, IfOk, ⊤};
+ghost use Rattle.wu_core.specs.declared.fault.Fault.TheVariants.{Memory};
+ghost use Rattle.wu_core.specs.Storable.{AreStorable};
+ghost use Rattle.wu_views.specs.Waiting.{count_lines, due_count, FindsDueLines, FindsStatusLines};
 ghost use Rattle.wu_store.specs.Loading.{ServesUnlessFailed};
 ghost use Rattle.wu_store.specs.Reads.{FindsAt, ReadsQueued};
 
+use crate::tallies::{Deadlines, Decisions, count_deadlines, count_decisions};
 use sqlite::{Alter, Connection};
 use std::alloc::Global;
-use wu_core::{Fault, Moment};
+use wu_core::{Deadline, Fault, Moment};
 use wu_rules::Pass;
 use wu_store::due_numbers;
 
@@ -16,6 +19,21 @@ use wu_store::due_numbers;
 pub struct DueLine {
     pub pass: Pass,
     pub count: u64,
+}
+
+/// A line on what is open in a project at a moment.
+#[derive(Clone, Copy)]
+pub enum StatusLine {
+    /// How many workunits wait for a pass.
+    Due(DueLine),
+    /// How many workunits have neither a canonical instance nor an error.
+    Undecided(u64),
+    /// How many present workunits have an error.
+    GivenUp(u64),
+    /// How many instances in progress are past their deadline.
+    Overdue(u64),
+    /// The earliest deadline of the other instances in progress; `None` if there is none.
+    NextDeadline(Option<Deadline>),
 }
 
 /// All passes, in the order in which a cycle first runs them.
@@ -57,23 +75,60 @@ fn count_due<S: Alter>(
 /// cycle first runs them. A purge is taken to have the least age 0.
 ///
 /// Reads the queue, and loads no workunit. Returns `NotAProject` if a row of the queue is invalid.
-pub fn due_lines<S: Alter>(
+fn due_lines<S: Alter>(
     conn: &mut Connection<S>,
     alloc: Global,
     now: Moment,
-) -> Result<Vec<DueLine>, Fault>
-    // The connection is open afterwards, except after `Memory` and `Broken`.
+) -> Result<Vec<StatusLine>, Fault>
     ensures opens { ServesUnlessFailed S.Store conn.new result }
-    // It only reads, and a fault is `Memory`, `Broken` or `NotAProject`.
-    // In each represented world with classes and its queue each pass has its line, with the number
-    // of the workunits that it changes.
-    // Over such a world, with no limit on steps, `NotAProject` is not returned.
     ensures reads { ReadsQueued S.Store conn.old conn.new result (FindsDueLines now) (λ _. ⊤) }
 {
     let mut lines = Vec::new(alloc);
     for pass in PASSES {
         let count = count_due(conn, alloc, pass, now)?;
-        lines.push(DueLine { pass, count })?;
+        lines.push(StatusLine::Due(DueLine { pass, count }))?;
     }
     Ok(lines)
+}
+
+/// Adds the lines of these numbers.
+fn with_counts(
+    lines: Vec<StatusLine>,
+    decisions: Decisions,
+    deadlines: Deadlines,
+) -> Result<Vec<StatusLine>, Fault>
+    ensures ok { IfOk result
+        (λ found. found.items ≡ lines.items ++ count_lines decisions deadlines) }
+    ensures memory { IfErr result (λ fault. fault ≡ Memory) }
+{
+    let mut lines = lines;
+    lines.push(StatusLine::Undecided(decisions.undecided))?;
+    lines.push(StatusLine::GivenUp(decisions.given_up))?;
+    lines.push(StatusLine::Overdue(deadlines.overdue))?;
+    lines.push(StatusLine::NextDeadline(deadlines.next))?;
+    Ok(lines)
+}
+
+/// Returns what is open in a project at a moment: for each pass how many workunits it would change, if it had no limit, in
+/// the order in which a cycle first runs them; how many workunits are undecided, and how many were given up; how many
+/// instances in progress are overdue, and the earliest deadline of the others. A purge is taken to have the least age 0.
+///
+/// Walks over all workunits and instances, and holds no list of them. Returns `NotAProject` if a row is invalid.
+pub fn status_lines<S: Alter>(
+    conn: &mut Connection<S>,
+    alloc: Global,
+    now: Moment,
+) -> Result<Vec<StatusLine>, Fault>
+    // The connection is open afterwards, except after `Memory` and `Broken`.
+    ensures opens { ServesUnlessFailed S.Store conn.new result }
+    // It only reads, and a fault is `Memory`, `Broken` or `NotAProject`.
+    // In each represented world with classes and its queue these are its lines.
+    // Over such a world with values in range, with no limit on steps, `NotAProject` is not returned.
+    ensures reads { ReadsQueued S.Store conn.old conn.new result (FindsStatusLines now)
+        AreStorable }
+{
+    let due = due_lines(conn, alloc, now)?;
+    let decisions = count_decisions(conn, alloc)?;
+    let deadlines = count_deadlines(conn, alloc, now)?;
+    with_counts(due, decisions, deadlines)
 }

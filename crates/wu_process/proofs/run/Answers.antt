@@ -5,12 +5,12 @@ pub returns-in-Ok : goal.returns-in-Ok
 returns-in-Ok c = inl (record {
   words = c.words-words.result;
   old = c.begin.new.self;
-  new = c.run_with-status.new.out;
+  new = c.run_with-end.new.out;
   err_old = c.new-err.result;
-  err_new = c.run_with-status.new.err;
+  err_new = c.run_with-end.new.err;
   in_old = _;
   in_new = _;
-  end = c.run_with-status.result;
-  runs = c.run_with-status.ensures;
+  end = c.run_with-end.result;
+  runs = c.run_with-end.ensures;
   same = refl;
 })

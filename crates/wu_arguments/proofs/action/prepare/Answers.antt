@@ -1,8 +1,11 @@
-use Rattle.std.proofs.Common.{Err, inl, refl, rules, subst}
+use Rattle.std.proofs.Common.{Ok, Err, Result, ap, inl, inr, refl, rules, subst}
+use Rattle.wu_core.specs.declared.fault.Fault.{Fault}
 use Rattle.wu_core.specs.Names.{name_of}
 use Rattle.wu_core.specs.Reads.{TellsRefusal}
 use Rattle.wu_machine.specs.declared.command.Command.TheVariants as command
 use Rattle.wu_arguments.specs.Actions.{pass_command}
+use Rattle.wu_arguments.specs.declared.action.Action.{Action}
+use Rattle.wu_arguments.specs.declared.action.Action.TheVariants.{Look}
 use Rattle.wu_arguments.proofs.ActionLemmas.{made, not_made, told_same}
 use Rattle.wu_arguments.proofs.action.prepare.Goals as goal
 
@@ -12,8 +15,15 @@ returns-in-Import c = rw c.in-Import.is (record { action = c.import.ensures.acti
 pub returns-in-Cycle : goal.returns-in-Cycle
 returns-in-Cycle c = rw c.in-Cycle.is (record { action = c.all_of_cycle.ensures.action; told = c.all_of_cycle.ensures.told })
 
-pub returns-in-Show : goal.returns-in-Show
-returns-in-Show c = rw c.in-Show.is (record { action = inl refl; told = tt })
+pub returns-in_ok-copy-in-Show : goal.returns-in_ok-copy-in-Show
+returns-in_ok-copy-in-Show c =
+    rw c.in-Show.is (record { action = inl (ap {B = Result Action Fault} (λ view. Ok (Look view)) c.in_ok-copy-in-Show.ensures); told = tt })
+
+pub returns-in_err-copy-in-Show : goal.returns-in_err-copy-in-Show
+returns-in_err-copy-in-Show c = rw c.in-Show.is (record { action = inr (search rules); told = tt })
+
+pub returns-in-Imports : goal.returns-in-Imports
+returns-in-Imports c = rw c.in-Imports.is (record { action = c.imports.ensures.action; told = c.imports.ensures.told })
 
 pub returns-in-Status : goal.returns-in-Status
 returns-in-Status c = rw c.in-Status.is (record { action = inl c.status.ensures; told = told_same _ _ c.status.ensures })

@@ -1,4 +1,4 @@
-use Rattle.std.proofs.Common.{◌≡◌, Err, Result, rules, subst, sym}
+use Rattle.std.proofs.Common.{◌≡◌, Err, Ok, Result, rules, subst, sym}
 use Rattle.std.specs.Prelude.{MatchResult}
 use Rattle.wu_cli.specs.Outputs.{KeepsOutputs}
 use Rattle.wu_cli.specs.declared.backup.Counts.{Counts}
@@ -17,3 +17,6 @@ returns-in_err-_counts g c =
       checks = c.count_sound.ensures;
       ends = subst (λ (r : Result Counts Trouble). MatchResult r (λ _. KeepsOutputs g.S.Store (g.F.KeepFile.keeps c.args.files.now) c.args.asked.now c.count_sound.new.conn c.count_sound.new.conn done) (λ why. done ≡ Err why)) (sym is) told;
     }
+
+pub returns : goal.returns
+returns g c = record { mid = c.count_sound.new.conn; counts = Ok c.in_ok-_counts._counts; checks = c.in_ok-_counts.ensures; ends = c.keep_outputs.ensures }

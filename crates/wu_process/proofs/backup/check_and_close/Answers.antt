@@ -1,4 +1,4 @@
-use Rattle.std.proofs.Common.{◌≡◌, Err, Result, rules, subst, sym}
+use Rattle.std.proofs.Common.{◌≡◌, Err, Ok, Result, rules, subst, sym}
 use Rattle.std.specs.Prelude.{MatchResult}
 use Rattle.wu_cli.specs.declared.backup.Counts.{Counts}
 use Rattle.wu_cli.specs.declared.trouble.Trouble.{Trouble}
@@ -17,3 +17,6 @@ returns-in_err-counts g c =
       checks = c.count_sound.ensures;
       ends = subst (λ (r : Result Counts Trouble). MatchResult r (λ its. ClosesFolded c.count_sound.new.conn its done) (λ why. done ≡ Err why)) (sym is) told;
     }
+
+pub returns : goal.returns
+returns g c = record { again = c.count_sound.new.conn; counts = Ok c.in_ok-counts.counts; checks = c.in_ok-counts.ensures; ends = c.close_folded.ensures }

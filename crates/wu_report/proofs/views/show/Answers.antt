@@ -8,7 +8,7 @@ use Rattle.wu_report.proofs.views.show.Goals as goal
 -- all lines were written, and then it was flushed
 pub returns-in-Ok : goal.returns-in-Ok
 returns-in-Ok g c = record {
-  text = λ going clean world knows shows. Writes-kept _ _ _ (view_text world c.args.view) c.flush.result (c.in-Ok.ensures.written.text going clean world knows shows) c.flush.ensures.bytes;
+  text = λ going clean world knows shows. Writes-kept _ _ _ (view_text world c.args.view.now) c.flush.result (c.in-Ok.ensures.written.text going clean world knows shows) c.flush.ensures.bytes;
   goes = λ clean world goes. goes_on (state_of c.args.project.now) _ world clean c.write_view.ensures.written.reads.read goes;
   reads = c.write_view.ensures.written.reads.read;
   clean = c.write_view.ensures.written.reads.read.survives.clean;

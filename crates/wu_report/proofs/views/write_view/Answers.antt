@@ -37,8 +37,14 @@ returns-in-Imports-clause-written g c = rw c.in-Imports.is c.write_listing-in-Im
 pub returns-in-Imports-clause-counted : goal.returns-in-Imports-clause-counted
 returns-in-Imports-clause-counted g c is = absurd (let no = sym is ∙ c.in-Imports.is in cc)
 
+pub returns-in-Import-clause-written : goal.returns-in-Import-clause-written
+returns-in-Import-clause-written g c = rw c.in-Import.is c.write_imports.ensures
+
+pub returns-in-Import-clause-counted : goal.returns-in-Import-clause-counted
+returns-in-Import-clause-counted g c is = absurd (let no = sym is ∙ c.in-Import.is in cc)
+
 pub returns-in-Status-clause-written : goal.returns-in-Status-clause-written
-returns-in-Status-clause-written g c = rw c.in-Status.is c.write_due.ensures
+returns-in-Status-clause-written g c = rw c.in-Status.is c.write_status.ensures
 
 pub returns-in-Status-clause-counted : goal.returns-in-Status-clause-counted
 returns-in-Status-clause-counted g c is = absurd (let no = sym is ∙ c.in-Status.is in cc)

@@ -5,7 +5,8 @@ use Rattle.std.specs.Prelude.{IfErr}
 use Rattle.wu_store.proofs.AskLemmas.{asks_row, asks_then, opens_handed, reads_both, reads_made, reads_then_handed}
 use Rattle.wu_schema.specs.Reading.{IsReadFault}
 use Rattle.wu_rules.specs.declared.due.Pass.TheVariants.{Transition}
-use Rattle.wu_views.specs.declared.waiting.DueLine.{DueLine}
+use Rattle.wu_views.specs.declared.waiting.StatusLine.{StatusLine}
+use Rattle.wu_views.specs.declared.waiting.StatusLine.TheVariants.{Due}
 use Rattle.wu_views.specs.Waiting.{all_passes, due_line_of, due_lines}
 use Rattle.wu_views.proofs.waiting.due_lines.Goals as goal
 
@@ -17,11 +18,11 @@ loop-pass-preserved g c = record {
       let now = c.args.now in
       let lines = due_lines now world in
       let pass = get_or all_passes i Transition in
-      let mine : DueLine = record { pass = pass; count = c.in_ok-count.count } in
+      let mine : StatusLine = Due (record { pass = pass; count = c.in_ok-count.count }) in
       let pushed : c.push.new.self.items ≡ c.loop-pass.lines.items ++ mine ∷ [] = search rules in
       pushed ∙ ap (λ ls. ls ++ mine ∷ []) found.0
-      ∙ ap (λ n. take i lines ++ record { pass = pass; count = n } ∷ []) found.1
-      ∙ ap (λ (l : DueLine). take i lines ++ l ∷ []) (sym (get_or-map (due_line_of now world) all_passes i Transition))
+      ∙ ap (λ n. take i lines ++ Due (record { pass = pass; count = n }) ∷ []) found.1
+      ∙ ap (λ (l : StatusLine). take i lines ++ l ∷ []) (sym (get_or-map (due_line_of now world) all_passes i Transition))
       ∙ sym (take_more lines i (due_line_of now world Transition) c.loop-pass-test.true));
 }
 

@@ -1,0 +1,139 @@
+//! What a terminal shows beside the answers: that a database was made, that an import came before, and that a template
+//! lets no job succeed. No clause speaks of it.
+
+use crate::database::LeftDatabase;
+use crate::files::HostFiles;
+use sqlite_disk::Disk;
+use std::alloc::Global;
+use std::fs;
+use std::io::{self, ErrorKind, Write};
+use std::time::SystemTime;
+use wu_arguments::{Asking, Order, ReadFile, read_words};
+use wu_feed::{LONGEST_TEMPLATE, read_template};
+
+/// The file of a database before the words are done.
+#[derive(Drop)]
+enum Before {
+    Absent,
+    /// It was last written to at this moment, as far as that is known.
+    Written(Option<SystemTime>),
+}
+
+/// What is known of a line or a script before it is done.
+#[derive(Drop)]
+pub struct Hints {
+    order: Order,
+    before: Before,
+}
+
+/// Returns the path of the database that a line or a script works on.
+fn database_of(order: &Order) -> Option<&str> {
+    match order {
+        Order::Line(line) => Some(line.db.as_str()),
+        Order::Script(script) => Some(script.db.as_str()),
+        _ => None,
+    }
+}
+
+/// Returns how the file at the path is.
+fn look_at(rt: &HostRuntime, path: &str) -> Before {
+    match fs::metadata(rt, path) {
+        Ok(found) => Before::Written(found.modified().ok()),
+        Err(error) if error.kind() == ErrorKind::NotFound => Before::Absent,
+        Err(_) => Before::Written(None),
+    }
+}
+
+/// Returns whether the line imports a file.
+fn is_import(order: &Order) -> bool {
+    match order {
+        Order::Line(line) => matches!(line.asking, Asking::Import { .. }),
+        _ => false,
+    }
+}
+
+/// Returns the path of the template of the line's batch.
+fn template_of(order: &Order) -> Option<&str> {
+    let Order::Line(line) = order else {
+        return None;
+    };
+    match &line.asking {
+        Asking::Import {
+            template: Some(path),
+            ..
+        } => Some(path.as_str()),
+        _ => None,
+    }
+}
+
+/// Returns whether the template at the path allows fewer instances than a quorum needs.
+fn never_succeeds(alloc: Global, files: &HostFiles<'_>, path: &str) -> bool {
+    let Ok(Some(text)) = files.read(path, LONGEST_TEMPLATE) else {
+        return false;
+    };
+    match read_template(alloc, text.as_slice()) {
+        Ok(params) => params.max_total_results() < params.min_quorum(),
+        Err(_) => false,
+    }
+}
+
+impl Hints {
+    /// Returns what is known of a line or a script before it is done; `None` for any other words.
+    pub fn before(rt: &HostRuntime, words: &io::Result<Vec<String>>) -> Option<Self> {
+        let Ok(words) = words else {
+            return None;
+        };
+        let order = read_words(rt.alloc(), words.as_slice()).ok()?;
+        let before = look_at(rt, database_of(&order)?);
+        Some(Hints { order, before })
+    }
+
+    /// Returns whether the line is an import that changed nothing, since nothing was written to the database.
+    fn came_before(&self, rt: &HostRuntime) -> bool {
+        if !is_import(&self.order) {
+            return false;
+        }
+        let Some(path) = database_of(&self.order) else {
+            return false;
+        };
+        match (&self.before, look_at(rt, path)) {
+            (Before::Written(Some(first)), Before::Written(Some(last))) => *first == last,
+            _ => false,
+        }
+    }
+
+    /// Returns whether the database was made.
+    fn was_made(&self, rt: &HostRuntime, path: &str) -> bool {
+        match self.before {
+            Before::Absent => !matches!(look_at(rt, path), Before::Absent),
+            Before::Written(_) => false,
+        }
+    }
+
+    /// Shows what there is to say of a line or a script that was done and left its database closed or not.
+    pub fn tell<D: Disk, E: Write>(
+        &self,
+        rt: &HostRuntime,
+        status: u8,
+        left: &Option<LeftDatabase<D>>,
+        err: &mut E,
+    ) {
+        if let Some(path) = database_of(&self.order) {
+            if self.was_made(rt, path) {
+                let _ = writeln!(err, "made {path}");
+            }
+        }
+        let is_done = status == 0 && matches!(left, Some(LeftDatabase::Closed(_)));
+        if is_done && self.came_before(rt) {
+            let _ = writeln!(err, "came before: nothing done");
+        }
+        if let Some(path) = template_of(&self.order) {
+            if never_succeeds(rt.alloc(), &HostFiles::new(rt), path) {
+                let _ = writeln!(
+                    err,
+                    "{path}: max_total_results is below min_quorum, so no job can succeed"
+                );
+            }
+        }
+    }
+}
