@@ -1,14 +1,21 @@
 -- From question to question.
-use Rattle.wu_schema.proofs.Words.{Database, Err, Fault, Ghosts, HasCleanDisk, HasTables, Held, IfErr, IfOk, IsErrAnd, Ok, Option, ProjectTrees, Refines, Result, Schema, World, arith, inl, inr, refl, state, subst, sym, ℕ, ◌∙◌, ◌≡◌, ◌≢◌, ◌⊎◌}
+use Rattle.wu_schema.proofs.Words.{Database, Err, Fault, Ghosts, HasCleanDisk, HasTables, Held, IfErr, IfOk, IsErrAnd, None, Ok, Option, ProjectTrees, Refines, Result, Schema, Some, World, arith, inl, inr, refl, state, subst, sym, ℕ, ◌∙◌, ◌≡◌, ◌⊎◌}
 use Rattle.sqlite.specs.State.{IsLive}
+use Rattle.std.specs.Prelude.{IfSome}
 use Rattle.std.proofs.lemmas.Result.{IfOk-weaker}
-use Rattle.wu_core.specs.declared.fault.Fault.TheVariants.{Broken, Memory}
+use Rattle.wu_core.specs.declared.fault.Fault.TheVariants.{Memory, NotAProject}
 use Rattle.wu_loader.specs.Asked.{IsAnsweredUnlessFailed, Looks}
 use Rattle.wu_loader.specs.Finding.{FindsNone, FindsRow, FindsWorld}
-use Rattle.wu_schema.specs.Faults.{IsStoreFault}
+use Rattle.wu_schema.specs.Faults.{IsFailure, IsStoreFault}
 use Rattle.wu_store.specs.StandsFor.{IsQueued}
 use Rattle.wu_loader.specs.declared.finding.Found.{Found}
 use Rattle.wu_loader.specs.declared.finding.Found.TheVariants as found
+use Rattle.wu_loader.specs.declared.finding.LoadedTable.TheVariants as loaded
+use Rattle.wu_loader.specs.declared.finding.WrongRow.{WrongRow}
+use Rattle.wu_loader.specs.declared.totals.OtherSums.{OtherSums}
+use Rattle.wu_loader.specs.Totals.{ShowsOtherSums}
+use Rattle.wu_loader.proofs.LookLemmas.{memory_other, never_broken}
+use Rattle.wu_loader.proofs.TotalLemmas.{shown_sums}
 use Rattle.wu_schema.specs.Asking.{Asks, ServesUnlessFailed}
 use Rattle.wu_schema.proofs.AskingLemmas.{asks_fault, asks_made, asks_none, asks_now, asks_then, asks_unchanged}
 use Rattle.wu_store.specs.Loading.{StaysUnlessFailed}
@@ -19,16 +26,10 @@ use Rattle.wu_tables.specs.declared.project.Misfit.{Misfit}
 use Rattle.wu_schema.specs.Tables.{IsClassedVersion}
 use Rattle.wu_check.specs.declared.finding.Finding.{Finding}
 use Rattle.wu_check.specs.Queues.{HasMarks, LooksInQueue}
-use Rattle.wu_check.specs.Examining.{Examines, IsLegible}
-use Rattle.wu_check.specs.Findings.{HasFirstTables, LacksTables, Tells}
+use Rattle.wu_check.specs.Examining.{unless_refused, Examines, IsLegible}
+use Rattle.wu_check.specs.Findings.{HasFirstTables, HasHostOfOtherSums, HasWrongRow, LacksTables, Tells}
 use Rattle.wu_check.specs.Versions.{IsReadVersion}
 use Rattle.wu_check.specs.declared.finding.Finding.TheVariants as finding
-
-pub never_broken : {T : Type 0} (x : T) → ◌≢◌ {A = Result T Fault} (Ok x) (Err Broken)
-never_broken x is = absurd cc
-
-memory_other : {T : Type 0} → ◌≢◌ {A = Result T Fault} (Err Memory) (Err Broken)
-memory_other is = absurd cc
 
 module _ {S : Type 0} (g : Ghosts S) (h : Held S) where
   -- what is known with no question
@@ -140,6 +141,79 @@ module _ {S : Type 0} (version : ℕ) (g : Ghosts S) (a b : Held S) (trees : Pro
     fault = fault;
     answered = λ clean unlimited. answered clean trees tables unlimited;
   }
+
+-- ---- the row that is wrong
+
+-- if this row is the first wrong one, the finding is true
+abbrev pub TellsOfRow : WrongRow → Database → Finding → Type 0
+TellsOfRow wrong db found = HasWrongRow db wrong → Tells db found
+
+-- what is found in place of it, if it is that of a host
+abbrev pub SumsIn : WrongRow → Database → Option OtherSums → Type 0
+SumsIn wrong db found = HasWrongRow db wrong → IfSome found (HasHostOfOtherSums db)
+
+never_failed : IsFailure NotAProject → ⊥
+never_failed (inl is) = absurd cc
+never_failed (inr is) = absurd cc
+
+module _ {S : Type 0} (g : Ghosts S) (a b : Held S) where
+  abbrev LooksForSums : Result (Option OtherSums) Fault → Type 0
+  LooksForSums r = (version : ℕ) → Looks version g a b r (λ db trees found. IfSome found (ShowsOtherSums db.trees trees))
+
+  says_sums : (wrong : WrongRow) → wrong.table ≡ loaded.Host → (found : Option OtherSums) → LooksForSums (Ok found) → HasCleanDisk (state g b) → IsLegible (state g a).now → SumsIn wrong (state g a).now found
+  says_sums wrong of_host None it clean legible row = tt
+  says_sums wrong of_host (Some sums) it clean legible row =
+      let db = (state g a).now in
+      let shows = (it row.version).says clean row.trees (record { tables = row.there; arranged = legible.project row.version row.read.stands row.trees row.there }) in
+      let both = shown_sums row.version db row.trees wrong of_host row.shown sums shows in
+      record {
+        place = shows.place;
+        row = record { version = row.version; read = row.read; trees = row.trees; there = row.there; shown = both.0; none = row.none };
+        host = both.1;
+      }
+
+  asks_unless_refused : (r : Result (Option OtherSums) Fault) → Asks g a b r → Asks g a b (unless_refused r)
+  asks_unless_refused (Err NotAProject) it = record { mode = it.mode; crash = it.crash; answered = λ clean. elim (it.refused clean) [ inl failed ↦ absurd (never_failed failed) | inr same ↦ same ]; refused = λ clean. tt; back = it.back; broken = λ clean is. absurd cc }
+  asks_unless_refused r it = it
+
+  failed_only : (r : Result (Option OtherSums) Fault) → IfErr r IsStoreFault → IfErr (unless_refused r) IsFailure
+  failed_only (Ok found) told = tt
+  failed_only (Err NotAProject) told = tt
+  failed_only (Err fault) (inl is) = inl is
+  failed_only (Err fault) (inr (inl is)) = inr is
+  failed_only (Err fault) (inr (inr is)) = absurd cc
+
+  pub examines_sums : (wrong : WrongRow) → wrong.table ≡ loaded.Host → (r : Result (Option OtherSums) Fault) → LooksForSums r → Examines g a b (unless_refused r) (SumsIn wrong)
+  examines_sums wrong of_host r it = record {
+    asks = asks_unless_refused r (it 1).asks;
+    says = says r it;
+    fault = failed r (it 1).fault;
+    answered = λ clean unlimited. failed_only r (it 1).fault;
+  }
+    where
+      says : (r : Result (Option OtherSums) Fault) → LooksForSums r → HasCleanDisk (state g b) → IsLegible (state g a).now → IfOk (unless_refused r) (SumsIn wrong (state g a).now)
+      says (Ok found) it clean legible = says_sums wrong of_host found it clean legible
+      says (Err NotAProject) it clean legible = λ row. tt
+      says (Err fault) it clean legible = tt
+
+      failed : (r : Result (Option OtherSums) Fault) → IfErr r IsStoreFault → IfErr (unless_refused r) IsStoreFault
+      failed (Ok found) told = tt
+      failed (Err NotAProject) told = tt
+      failed (Err fault) told = told
+
+  pub sums_open : (r : Result (Option OtherSums) Fault) → LooksForSums r → ServesUnlessFailed g b (unless_refused r)
+  sums_open (Ok found) it = (it 1).opens
+  sums_open (Err NotAProject) it = λ clean. elim ((it 1).opens clean) [ inl failed ↦ absurd (never_failed failed) | inr still ↦ still ]
+  sums_open (Err fault) it = (it 1).opens
+
+module _ {S : Type 0} (version : ℕ) (g : Ghosts S) (a b c : Held S) (loaded : Found) (wrong : WrongRow) (is : loaded ≡ found.Wrong wrong) (one : Examines g a b (Ok loaded) (FindsOf version)) where
+  -- what is told of the row that was found
+  pub examines_row : (r : Result Finding Fault) → Examines g b c r (TellsOfRow wrong) → Examines g a c r (TellsOfVersion version)
+  examines_row r two = examines_then g a b c loaded (FindsOf version) one r (TellsOfRow wrong) two (TellsOfVersion version) (λ y found then told. then (subst (FindsOf version (state g a).now) is found told))
+
+  -- or that the project is of a later version
+  pub examines_later : (d : Held S) (told : Finding) → Examines g b c (Ok told) (TellsOfRow wrong) → (r : Result Finding Fault) → Examines g c d r (λ db found. Tells db told → Tells db found) → Examines g a d r (TellsOfVersion version)
+  examines_later d told two r three = examines_then g a c d told (TellsOfVersion version) (examines_row (Ok told) two) r (λ db found. Tells db told → Tells db found) three (TellsOfVersion version) (λ y was then read. then (was read))
 
 -- ---- the version that is told
 

@@ -17,7 +17,7 @@ use Rattle.wu_loader.proofs.StandLemmas.{stored_keyed}
 use Rattle.wu_loader.specs.Shown.{behind_key, keyed}
 use Rattle.wu_loader.specs.Whole.{DiffersAt}
 use Rattle.wu_check.specs.Queues.{ComparesTo, HasMarks, IsQueueIn, LooksInQueue, marked_row}
-use Rattle.wu_check.proofs.ExamineLemmas.{never_broken}
+use Rattle.wu_loader.proofs.LookLemmas.{never_broken}
 use Rattle.wu_check.proofs.RowLemmas.{shown_differs}
 use Rattle.wu_check.specs.declared.marks.TheConstants.{SELECT_MARKS}
 

@@ -74,6 +74,7 @@ module _ (any_order : SoundInAnyOrder) (db : Database) (p : IsSoundProject db) w
   refuted : (found : Finding) → Tells db found → TellsOfSound db.schema p.world found
   refuted (finding.Tables misfit) told = told.none p.stands.refines.trees (fewer_tables p.world.version told.version (told.needed p.world p.stands.refines) db p.stands.refines.trees p.stands.refines.tables)
   refuted (finding.Row wrong) told = told.none p.world (readable p.world p.sound p.known.first) p.stands.refines
+  refuted (finding.Sums sums) told = told.row.none p.world (readable p.world p.sound p.known.first) p.stands.refines
   refuted (finding.Version version) told = told.other (subst IsKnown (other_stands db version told p.world p.stands.refines) p.known)
   refuted (finding.World wrong key) told = stands_against told.world wrong told.against (sound_of told.world told.refines)
   refuted finding.Queue told =

@@ -1,10 +1,11 @@
 -- What questions do to a connection, and what they report of the database that it shows.
-use Rattle.std.specs.Prelude.{◌≡◌, ℕ, codes, None, Result, IfErr, IfOk}
+use Rattle.std.specs.Prelude.{◌≡◌, ℕ, codes, Err, None, Ok, Option, Result, IfErr, IfOk}
 use Rattle.sqlite.specs.Effect.{Database}
 use Rattle.sqlite.specs.Held.{Held, state}
 use Rattle.sqlite.specs.State.{HasCleanDisk}
 use Rattle.sqlite.specs.Store.{Ghosts}
 use Rattle.wu_core.specs.declared.fault.Fault.{Fault}
+use Rattle.wu_core.specs.declared.fault.Fault.TheVariants.{NotAProject}
 use Rattle.wu_schema.specs.Asking.{Asks}
 use Rattle.wu_schema.specs.Faults.{IsFailure, IsStoreFault}
 use Rattle.wu_core.specs.World.{World}
@@ -43,3 +44,8 @@ pub record Examines {S T : Type 0} (g : Ghosts S) (old new : Held S) (result : R
   pub says : OnLegible g old new result Is
   pub fault : IfErr result IsStoreFault
   pub answered : AnswersUnlessFailed g old new result
+
+-- Nothing is found where a question was refused.
+abbrev pub unless_refused : {T : Type 0} → Result (Option T) Fault → Result (Option T) Fault
+unless_refused (Err NotAProject) = Ok None
+unless_refused found = found

@@ -13,9 +13,12 @@ use Rattle.wu_audit.specs.declared.wrong.Wrong.{Wrong}
 use Rattle.wu_machine.specs.Machine.{present_version}
 use Rattle.wu_machine.specs.Sound.{IsSound}
 use Rattle.wu_loader.specs.Finding.{IsShownWrong}
+use Rattle.wu_loader.specs.Totals.{IsFirstOfOtherSums}
 use Rattle.wu_loader.specs.Whole.{DiffersAt}
 use Rattle.wu_loader.specs.Worlds.{IsReadable}
+use Rattle.wu_loader.specs.declared.finding.LoadedTable.TheVariants as loaded
 use Rattle.wu_loader.specs.declared.finding.WrongRow as row
+use Rattle.wu_loader.specs.declared.totals.OtherSums.{OtherSums}
 use Rattle.wu_schema.specs.Queue.{HasQueue}
 use Rattle.wu_schema.specs.Refines.{Refines}
 use Rattle.wu_schema.specs.Stored.{stored_marks}
@@ -82,6 +85,13 @@ pub record HasWrongRow (db : Database) (wrong : row.WrongRow) : Type 0 where
   pub shown : IsShownWrong version db trees wrong
   pub none : (world : World) → IsReadable world → Refines db world → ⊥
 
+-- The first wrong row is that of this host, the first in order of name that does not have the sums of its grants. These are
+-- the sums of its row and those of its grants.
+pub record HasHostOfOtherSums (db : Database) (sums : OtherSums) : Type 0 where
+  pub place : ℕ
+  pub row : HasWrongRow db (record { table = loaded.Host; place = place })
+  pub host : IsFirstOfOtherSums row.shown.rows.plain.grants.items row.shown.rows.plain.hosts.items place sums
+
 -- The one row of the project has this version, which this program does not know.
 pub record HasOtherVersion (db : Database) (version : ℕ) : Type 0 where
   -- If the database has a table `project`, that has one row, of this version.
@@ -132,6 +142,7 @@ pub record HasTakenName (db : Database) (version : ℕ) (name : List ℕ) : Type
 abbrev pub Tells : Database → Finding → Type 0
 Tells db (finding.Tables misfit) = LacksTables db misfit
 Tells db (finding.Row wrong) = HasWrongRow db wrong
+Tells db (finding.Sums sums) = HasHostOfOtherSums db sums
 Tells db (finding.Version version) = HasOtherVersion db version
 Tells db (finding.World wrong row) = HasUnsoundWorld db wrong row
 Tells db finding.Queue = LacksQueue db

@@ -1,11 +1,12 @@
 //! Whether an open database holds a sound project.
 
-ghost use Rattle.std.specs.Prelude.{IfErr};
-ghost use Rattle.wu_check.specs.Examining.{AnswersUnlessFailed, Examines, OnKept, OnLegible};
-ghost use Rattle.wu_check.specs.Findings.{IsBasis, IsBasisLater, IsBasisOf, Says, SaysLater, SaysSound, SaysUnsound, SaysWhy, Tells, TellsLater};
+ghost use Rattle.std.specs.Prelude.{◌≡◌, IfErr};
+ghost use Rattle.wu_check.specs.Examining.{unless_refused, AnswersUnlessFailed, Examines, OnKept, OnLegible};
+ghost use Rattle.wu_check.specs.Findings.{HasWrongRow, IsBasis, IsBasisLater, IsBasisOf, Says, SaysLater, SaysSound, SaysUnsound, SaysWhy, Tells, TellsLater};
 ghost use Rattle.wu_schema.specs.Asking.{Asks, ServesUnlessFailed};
 ghost use Rattle.wu_schema.specs.Calls.{OnAnswer};
 ghost use Rattle.wu_schema.specs.Faults.{IsStoreFault};
+ghost use Rattle.wu_store.specs.Loading.{StaysUnlessFailed};
 
 use crate::counts::instances_in;
 use crate::finding::{Finding, Verdict};
@@ -16,16 +17,49 @@ use std::alloc::Global;
 use wu_audit::Loaded;
 use wu_audit::laws::sound_in_any_order;
 use wu_core::Fault;
-use wu_loader::finding::Found;
-use wu_loader::load_world;
+use wu_loader::finding::{Found, LoadedTable, WrongRow};
+use wu_loader::totals::OtherSums;
+use wu_loader::{load_world, other_sums};
 use wu_schema::version_of;
-use wu_tables::{project_trees, taken_name};
+use wu_tables::{know_tables, taken_name};
 
 /// The world that the tables represent, or what keeps them from it.
 #[derive(Drop)]
 enum Basis {
     World(Loaded),
     Unsound(Finding),
+}
+
+/// Returns that nothing is found where a question was refused.
+fn unless_refused(found: Result<Option<OtherSums>, Fault>) -> Result<Option<OtherSums>, Fault>
+    ensures { result ≡ unless_refused found }
+{
+    match found {
+        Err(Fault::NotAProject) => Ok(None),
+        found => found,
+    }
+}
+
+/// Returns the finding on the wrong row, with both sums if it is that of a host with other sums than its grants.
+fn finding_of_row<S: Alter>(
+    conn: &mut Connection<S>,
+    alloc: Global,
+    wrong: WrongRow,
+) -> Result<Finding, Fault>
+    // Only reads; if the row is the first wrong one of the database, the finding is true.
+    ensures examines { Examines S.Store conn.old conn.new result
+        (λ db found. HasWrongRow db wrong → Tells db found) }
+    // A connection that was open is open afterwards, except after `Memory` and `Broken`.
+    ensures stays { StaysUnlessFailed S.Store conn.old conn.new result }
+{
+    let LoadedTable::Host = wrong.table else {
+        return Ok(Finding::Row(wrong));
+    };
+    let found = unless_refused(other_sums(conn, alloc))?;
+    match found {
+        Some(sums) => Ok(Finding::Sums(sums)),
+        None => Ok(Finding::Row(wrong)),
+    }
 }
 
 /// Returns the finding, or that the project is of a later version, which may have other tables and rows.
@@ -58,14 +92,15 @@ fn find_world_of<S: Alter>(
     // version.
     ensures later { OnAnswer S.Store conn.old conn.new result (IsBasisLater conn.old.step_limit) }
 {
-    if let Err(misfit) = project_trees(conn.schema(), version) {
+    if let Err(misfit) = know_tables(conn.schema(), version) {
         let finding = unless_later(conn, Finding::Tables(misfit))?;
         return Ok(Basis::Unsound(finding));
     }
     match load_world(conn, alloc, version)? {
         Found::World(loaded) => Ok(Basis::World(loaded)),
         Found::Wrong(wrong) => {
-            let finding = unless_later(conn, Finding::Row(wrong))?;
+            let found = finding_of_row(conn, alloc, wrong)?;
+            let finding = unless_later(conn, found)?;
             Ok(Basis::Unsound(finding))
         }
     }
@@ -80,7 +115,7 @@ fn find_world<S: Alter>(conn: &mut Connection<S>, alloc: Global) -> Result<Basis
     // version.
     ensures later { OnAnswer S.Store conn.old conn.new result (IsBasisLater conn.old.step_limit) }
 {
-    if let Err(misfit) = project_trees(conn.schema(), FIRST_VERSION) {
+    if let Err(misfit) = know_tables(conn.schema(), FIRST_VERSION) {
         let finding = unless_later(conn, Finding::Tables(misfit))?;
         return Ok(Basis::Unsound(finding));
     }

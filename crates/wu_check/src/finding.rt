@@ -3,6 +3,7 @@
 use wu_audit::Wrong;
 use wu_core::{ImportKind, Name};
 use wu_loader::finding::WrongRow;
+use wu_loader::totals::OtherSums;
 use wu_tables::Misfit;
 
 /// The row of a table that is wrong.
@@ -29,6 +30,8 @@ pub enum Finding {
     Tables(Misfit),
     /// A row is that of no value, or is missing.
     Row(WrongRow),
+    /// The row of a host has other sums than its grants.
+    Sums(OtherSums),
     /// The project has a version that this program does not know, as a later one.
     Version(u64),
     /// The rows do not agree, or one is not sound by itself.

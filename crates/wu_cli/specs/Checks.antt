@@ -14,6 +14,7 @@ use Rattle.wu_check.specs.declared.finding.Key.{Key}
 use Rattle.wu_check.specs.declared.finding.Key.TheVariants as key
 use Rattle.wu_loader.specs.declared.finding.LoadedTable.{LoadedTable}
 use Rattle.wu_loader.specs.declared.finding.LoadedTable.TheVariants as table
+use Rattle.wu_loader.specs.declared.totals.OtherSums.{OtherSums}
 use Rattle.wu_report.specs.Texts.{line_end}
 use Rattle.wu_tables.specs.Known.{name_of}
 use Rattle.wu_tables.specs.declared.known.ProjectTable.{ProjectTable}
@@ -62,6 +63,11 @@ misfit_line (misfit.Missing table) = codes "table " ++ name_of table ++ missing_
 misfit_line (misfit.Altered table) = codes "table " ++ name_of table ++ codes " is not that of a project" ++ line_end
 misfit_line misfit.HostNames = codes "table host has an index that does not compare names by their bytes" ++ line_end
 
+-- The line of a host with the total and the number of grants that its row keeps, and those that its grants have.
+abbrev pub sums_line : OtherSums → List ℕ
+sums_line sums =
+    codes "host " ++ (sums.kept.name ++ (codes ": total " ++ (decimal sums.kept.total ++ (codes " and " ++ (decimal sums.kept.grants ++ (codes " grants, its grants have " ++ (decimal sums.credit ++ (codes " and " ++ (decimal sums.grants ++ line_end)))))))))
+
 -- The line of a name that something has, and that an upgrade from this version gives.
 abbrev pub taken_line : ℕ → List ℕ → List ℕ
 taken_line version name = codes "version " ++ (decimal version ++ (codes " has no " ++ (name ++ (codes ", and something has that name: an upgrade cannot make it" ++ line_end))))
@@ -70,6 +76,7 @@ taken_line version name = codes "version " ++ (decimal version ++ (codes " has n
 abbrev pub finding_line : Finding → List ℕ
 finding_line (finding.Tables misfit) = misfit_line misfit
 finding_line (finding.Row wrong) = row_front wrong.table ++ decimal wrong.place ++ codes " " ++ codes "is missing, or none of a project" ++ line_end
+finding_line (finding.Sums sums) = sums_line sums
 finding_line (finding.Version version) = codes "version " ++ decimal version ++ codes " " ++ codes "is not known" ++ line_end
 finding_line (finding.World wrong row) = key_text row ++ (codes " " ++ wrong_word wrong ++ line_end)
 finding_line finding.Queue = codes "table queue or one of its indexes is missing, or is not that of a project" ++ line_end

@@ -1,16 +1,17 @@
 -- Whether a file reads as its import or its script would read it.
-use Rattle.std.specs.Prelude.{◌≡◌, ◌⊎◌, ℕ, ◌==◌, List, [], ◌++◌, bytes_eq, codes, if◌then◌else◌, IfErr, Option, Some, None, Result, Ok, Err}
+use Rattle.std.specs.Prelude.{◌≡◌, ◌⊎◌, ℕ, ◌==◌, ◌-◌, List, [], ◌∷◌, ◌++◌, bytes_eq, codes, if◌then◌else◌, IfErr, Option, Some, None, Result, Ok, Err}
 use Rattle.std.specs.Fmt.{decimal}
-use Rattle.wu_core.specs.Reads.{IsOrWantsMemory}
+use Rattle.wu_core.specs.Limits.{highest_class, longest_input, longest_name, longest_output, most_instances}
 use Rattle.wu_core.specs.declared.fault.Fault.{Fault}
 use Rattle.wu_core.specs.declared.fault.Fault.TheVariants.{BadFile, Memory, Output}
 use Rattle.wu_core.specs.declared.fault.FileCause.{FileCause}
 use Rattle.wu_core.specs.declared.fault.FileCause.TheVariants as cause
-use Rattle.wu_feed.specs.Classes.{classes_of_file}
-use Rattle.wu_feed.specs.Jobs.{jobs_of_file}
-use Rattle.wu_feed.specs.Limits.{longest_file, longest_template}
-use Rattle.wu_feed.specs.Reports.{reports_of_file}
-use Rattle.wu_feed.specs.Sends.{sends_of_file}
+use Rattle.wu_feed.specs.Classes.{classes_header, classes_of_file}
+use Rattle.wu_feed.specs.Jobs.{jobs_header, jobs_of_file}
+use Rattle.wu_feed.specs.Limits.{longest_file, longest_template, most_rows}
+use Rattle.wu_feed.specs.Reports.{reports_header, reports_of_file}
+use Rattle.wu_feed.specs.Sends.{sends_of_file, sends_header}
+use Rattle.wu_feed.specs.Shown.{shown_at}
 use Rattle.wu_feed.specs.Templates.{template_of}
 use Rattle.wu_report.specs.Texts.{line_end}
 use Rattle.wu_report.specs.Writing.{WritesTo}
@@ -57,40 +58,41 @@ read_as Reports bytes = nothing_of (reports_of_file bytes)
 read_as Classes bytes = nothing_of (classes_of_file bytes)
 read_as Template bytes = nothing_of (template_of bytes)
 
--- Whether a file with this content reads so; one that cannot be read is refused as its import refuses it.
-abbrev pub linted : FileKind → Option (List ℕ) → Result (Unit {0}) Fault
-linted kind (Some bytes) = read_as kind bytes
-linted kind None = Err (BadFile 0 cause.Unreadable)
-
--- The fault of a file of this kind, as a trouble.
-abbrev pub as_trouble : FileKind → Result (Unit {0}) Fault → Result (Unit {0}) Trouble
-as_trouble kind (Ok read) = Ok tt
-as_trouble kind (Err fault) = Err (trouble.Unread (record { kind = kind; fault = fault }))
-
 -- ---- what is wanted
 
+-- The names of a header, as they stand in a file.
+unfoldable pub joined : List (List ℕ) → List ℕ
+joined [] = []
+joined (name ∷ []) = name
+joined (name ∷ (next ∷ names)) = name ++ (codes "," ++ joined (next ∷ names))
+
+-- The header of the rows that such a file's reader takes; a template has none.
 abbrev pub header_wanted : FileKind → List ℕ
-header_wanted Jobs = codes "the header name,input"
-header_wanted Sends = codes "the header result,host,moment"
-header_wanted Reports = codes "the header result,host,moment,status,output"
-header_wanted Classes = codes "the header host,class"
+header_wanted Jobs = codes "the header " ++ joined jobs_header
+header_wanted Sends = codes "the header " ++ joined sends_header
+header_wanted Reports = codes "the header " ++ joined reports_header
+header_wanted Classes = codes "the header " ++ joined classes_header
 header_wanted Template = codes "keys and numbers"
+
+-- What is wanted of a name.
+abbrev pub name_wanted : List ℕ
+name_wanted = codes "1 to " ++ (decimal longest_name ++ codes " ASCII letters, digits, _, . or -")
 
 -- What is wanted in place of what a cause refuses.
 abbrev pub wanted : FileKind → FileCause → List ℕ
 wanted kind cause.Unreadable = codes "a file that can be read"
-wanted kind cause.TooLong = codes "at most 1048576 bytes"
+wanted kind cause.TooLong = codes "at most " ++ (decimal longest_file ++ codes " bytes")
 wanted kind cause.Header = header_wanted kind
-wanted kind cause.TooManyRows = codes "at most 1000 rows"
+wanted kind cause.TooManyRows = codes "at most " ++ (decimal most_rows ++ codes " rows")
 wanted kind cause.Fields = codes "as many fields as the header has"
-wanted kind cause.Name = codes "1 to 64 ASCII letters, digits, _, . or -"
-wanted kind cause.Host = codes "1 to 64 ASCII letters, digits, _, . or -"
-wanted kind cause.Input = codes "hex, 0 to 4096 bytes"
-wanted kind cause.Result = codes "the name of a workunit, _ and a number from 0 to 99"
+wanted kind cause.Name = name_wanted
+wanted kind cause.Host = name_wanted
+wanted kind cause.Input = codes "hex, 0 to " ++ (decimal longest_input ++ codes " bytes")
+wanted kind cause.Result = codes "the name of a workunit, _ and a number from 0 to " ++ decimal (most_instances - 1)
 wanted kind cause.Moment = codes "a moment as 2026-03-01T12:00:00Z"
 wanted kind cause.Status = codes "success, client_error or detached"
-wanted kind cause.Output = codes "hex, 0 to 65536 bytes, of a success alone"
-wanted kind cause.Class = codes "a number from 1 to 65535"
+wanted kind cause.Output = codes "hex, 0 to " ++ (decimal longest_output ++ codes " bytes, of a success alone")
+wanted kind cause.Class = codes "a number from 1 to " ++ decimal highest_class
 
 -- The column, from 1, of the field that a cause refuses; 0 if it refuses no field.
 abbrev pub column_of : FileKind → FileCause → ℕ
@@ -104,6 +106,47 @@ column_of kind cause.Moment = 3
 column_of kind cause.Status = 4
 column_of kind cause.Output = 5
 column_of kind _ = 0
+
+-- ---- what is found
+
+-- The field in a column, from 1, of a row, from 1; none in column 0.
+abbrev pub found_in : List ℕ → ℕ → ℕ → Option (List ℕ)
+found_in bytes row column = if column == 0 then None else shown_at bytes (row - 1) (column - 1)
+
+-- The field of a file that a fault refuses, if a report shows it.
+abbrev pub found_by : FileKind → List ℕ → Fault → Option (List ℕ)
+found_by kind bytes (BadFile row cause) = found_in bytes row (column_of kind cause)
+found_by kind bytes _ = None
+
+-- A file of this kind that is refused with a fault, with the field that is refused.
+abbrev pub unread : FileKind → List ℕ → Fault → Unread
+unread kind bytes fault = record { kind = kind; fault = fault; found = found_by kind bytes fault }
+
+-- A file of this kind that is refused with a fault at no field.
+abbrev pub unfound : FileKind → Fault → Unread
+unfound kind fault = record { kind = kind; fault = fault; found = None }
+
+-- What a reading refuses, with the field that is refused.
+abbrev pub with_found : FileKind → List ℕ → Result (Unit {0}) Fault → Result (Unit {0}) Unread
+with_found kind bytes (Ok read) = Ok tt
+with_found kind bytes (Err fault) = Err (unread kind bytes fault)
+
+-- Whether a file with this content reads so; one that cannot be read is refused as its import refuses it.
+abbrev pub linted : FileKind → Option (List ℕ) → Result (Unit {0}) Unread
+linted kind (Some bytes) = with_found kind bytes (read_as kind bytes)
+linted kind None = Err (unfound kind (BadFile 0 cause.Unreadable))
+
+-- A file that does not read so, as a trouble.
+abbrev pub as_trouble : Result (Unit {0}) Unread → Result (Unit {0}) Trouble
+as_trouble (Ok read) = Ok tt
+as_trouble (Err unread) = Err (trouble.Unread unread)
+
+-- ---- the texts
+
+-- The field that is refused, if a report shows it.
+abbrev pub found_text : Option (List ℕ) → List ℕ
+found_text (Some field) = codes "found: " ++ field ++ line_end
+found_text None = []
 
 abbrev pub column_line : ℕ → List ℕ → List ℕ
 column_line column text = codes "wanted in column " ++ (decimal column ++ (codes ": " ++ (text ++ line_end)))
@@ -119,15 +162,15 @@ abbrev pub wanted_text : FileKind → Fault → List ℕ
 wanted_text kind (BadFile row cause) = wanted_line (column_of kind cause) (wanted kind cause)
 wanted_text kind _ = []
 
--- The fault of a file, and what is wanted there.
+-- The fault of a file, what was found there and what is wanted.
 abbrev pub unread_text : Unread → List ℕ
-unread_text unread = fault_line unread.fault ++ wanted_text unread.kind unread.fault
+unread_text unread = fault_line unread.fault ++ (found_text unread.found ++ wanted_text unread.kind unread.fault)
 
 module _ (gives : List ℕ → ℕ → Option (List ℕ) → Type 0) where
   -- The file at the path is read as one of this kind, or the call is out of memory.
-  abbrev pub LintsFile : FileKind → List ℕ → Result (Unit {0}) Fault → Type 0
+  abbrev pub LintsFile : FileKind → List ℕ → Result (Unit {0}) Unread → Type 0
   LintsFile kind path result =
-      (result ≡ Err Memory) ⊎ ((content : Option (List ℕ)) × gives path (longest_of kind) content × IsOrWantsMemory result (linted kind content))
+      (result ≡ Err (unfound kind Memory)) ⊎ ((content : Option (List ℕ)) × gives path (longest_of kind) content × (result ≡ linted kind content))
 
   -- The script at the path is read with the files of its lines, or the call is out of memory.
   abbrev pub LintsScript : List ℕ → Result (Unit {0}) Trouble → Type 0
@@ -137,7 +180,7 @@ module _ (gives : List ℕ → ℕ → Option (List ℕ) → Type 0) where
 
   -- The file at the path is read as what it is for.
   abbrev pub LintsKind : LintKind → List ℕ → Result (Unit {0}) Trouble → Type 0
-  LintsKind (Imported kind) path result = (read : Result (Unit {0}) Fault) × LintsFile kind path read × (result ≡ as_trouble kind read)
+  LintsKind (Imported kind) path result = (read : Result (Unit {0}) Unread) × LintsFile kind path read × (result ≡ as_trouble read)
   LintsKind Script path result = LintsScript path result
 
 -- The line of a file that reads as it should.

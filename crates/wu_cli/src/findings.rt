@@ -5,13 +5,14 @@ ghost use Rattle.std.specs.Fmt.{decimal};
 ghost use Rattle.wu_core.specs.declared.fault.Fault.TheVariants.{Output};
 ghost use Rattle.wu_report.specs.Texts.{line_end};
 ghost use Rattle.wu_report.specs.Writing.{WritesTo};
-ghost use Rattle.wu_cli.specs.Checks.{finding_line, key_text, misfit_line, missing_text, row_front, sound_line, taken_line};
+ghost use Rattle.wu_cli.specs.Checks.{finding_line, key_text, misfit_line, missing_text, row_front, sound_line, sums_line, taken_line};
 
 use crate::texts::{placed, write_flushed, write_line};
 use std::io::Write;
 use wu_check::{Finding, Key};
 use wu_core::Fault;
 use wu_loader::finding::LoadedTable;
+use wu_loader::totals::OtherSums;
 use wu_report::{Piece, write_pieces};
 use wu_tables::{Misfit, ProjectTable};
 
@@ -116,6 +117,28 @@ fn line_of_row<W: Write>(out: &mut W, key: &Key, what: &str) -> Result<(), Fault
     )
 }
 
+/// Writes the sums that the row of a host keeps, and those of its grants.
+fn line_of_sums<W: Write>(out: &mut W, sums: &OtherSums) -> Result<(), Fault>
+    ensures { WritesTo W.contents out.old out.new (sums_line sums.now) result }
+{
+    write_flushed(
+        out,
+        &[
+            Piece::Text("host "),
+            Piece::Text(sums.kept.name.as_str()),
+            Piece::Text(": total "),
+            Piece::Number(sums.kept.total),
+            Piece::Text(" and "),
+            Piece::Number(sums.kept.grants),
+            Piece::Text(" grants, its grants have "),
+            Piece::Number(sums.credit),
+            Piece::Text(" and "),
+            Piece::Number(sums.grants),
+            Piece::Text("\n"),
+        ],
+    )
+}
+
 /// Writes which name of an upgrade from this version something has.
 fn line_of_taken<W: Write>(out: &mut W, version: u64, name: &str) -> Result<(), Fault>
     ensures { WritesTo W.contents out.old out.new (taken_line version name.now) result }
@@ -146,6 +169,7 @@ pub(crate) fn line_of_finding<W: Write>(out: &mut W, finding: &Finding) -> Resul
             wrong.place,
             "is missing, or none of a project",
         ),
+        Finding::Sums(sums) => line_of_sums(out, sums),
         Finding::Version(version) => placed(out, "version ", *version, "is not known"),
         Finding::World(wrong, key) => line_of_row(out, key, wrong.word()),
         Finding::Queue => write_line(

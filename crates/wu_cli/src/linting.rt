@@ -1,10 +1,10 @@
 //! Whether a file reads as its import or its script would read it. No database is opened.
 
-ghost use Rattle.std.specs.Prelude.{◌≡◌, IsOkUnless};
-ghost use Rattle.wu_core.specs.declared.fault.Fault.TheVariants.{Output};
+ghost use Rattle.std.specs.Prelude.{◌≡◌, ◌⊎◌, IsOkUnless, Ok};
+ghost use Rattle.wu_core.specs.declared.fault.Fault.TheVariants.{Memory, Output};
 ghost use Rattle.wu_core.specs.Reads.{IsOrWantsMemory};
 ghost use Rattle.wu_report.specs.Writing.{WritesTo};
-ghost use Rattle.wu_cli.specs.Linting.{column_line, column_of, header_wanted, kind_named, Lints, LintsFile, LintsKind, LintsScript, longest_of, nothing_of, read_as, sound_file_text, unread_text, wanted, wanted_line, wanted_text};
+ghost use Rattle.wu_cli.specs.Linting.{column_line, column_of, found_by, found_text, header_wanted, kind_named, Lints, LintsFile, LintsKind, LintsScript, longest_of, nothing_of, read_as, sound_file_text, unfound, unread, unread_text, wanted, wanted_line, wanted_text};
 
 use crate::texts::{line_of_fault, worded, write_flushed};
 use crate::trouble::Trouble;
@@ -15,7 +15,7 @@ use wu_arguments::{LintOrder, ReadFile, ScriptFile, Usage, Word};
 use wu_core::{Fault, FileCause};
 use wu_feed::{
     LONGEST_FILE, LONGEST_TEMPLATE, read_classes, read_jobs, read_reports, read_sends,
-    read_template,
+    read_template, shown_field,
 };
 use wu_report::Piece;
 
@@ -30,10 +30,12 @@ pub enum FileKind {
 }
 
 /// A file that does not read as its import would read it, and the import's fault.
-#[derive(Clone, Copy)]
+#[derive(Drop)]
 pub struct Unread {
     pub kind: FileKind,
     pub fault: Fault,
+    /// The field that is refused, if a report shows it.
+    pub found: Option<Word>,
 }
 
 /// What a file is read as.
@@ -146,12 +148,24 @@ fn write_wanted_of<W: Write>(out: &mut W, kind: FileKind, fault: Fault) -> Resul
     }
 }
 
-/// Writes the fault of a file, and what is wanted there.
-pub(crate) fn text_of_unread<W: Write>(out: &mut W, unread: Unread) -> Result<(), Fault>
-    // With Ok exactly the fault's line and what is wanted are written, and else a prefix of them.
-    ensures { WritesTo W.contents out.old out.new (unread_text unread) result }
+/// Writes the field that is refused, if a report shows it.
+fn write_found<W: Write>(out: &mut W, found: &Option<Word>) -> Result<(), Fault>
+    ensures { WritesTo W.contents out.old out.new (found_text found.now) result }
+{
+    match found {
+        Some(word) => worded(out, "found: ", word.as_str()),
+        None => Ok(()),
+    }
+}
+
+/// Writes the fault of a file, what was found there and what is wanted.
+pub(crate) fn text_of_unread<W: Write>(out: &mut W, unread: &Unread) -> Result<(), Fault>
+    // With Ok exactly the fault's line, the field that is refused and what is wanted are written,
+    // and else a prefix of them.
+    ensures { WritesTo W.contents out.old out.new (unread_text unread.now) result }
 {
     line_of_fault(out, unread.fault)?;
+    write_found(out, &unread.found)?;
     write_wanted_of(out, unread.kind, unread.fault)
 }
 
@@ -188,16 +202,72 @@ fn read_as(alloc: Global, kind: FileKind, bytes: &[u8]) -> Result<(), Fault>
     }
 }
 
+/// Returns the field of a file that a fault refuses, if a report shows it.
+fn found_by(
+    alloc: Global,
+    kind: FileKind,
+    bytes: &[u8],
+    fault: Fault,
+) -> Result<Option<Word>, Fault>
+    ensures { IsOrWantsMemory result (Ok (found_by kind bytes.now fault)) }
+{
+    let Fault::BadFile { row, cause } = fault else {
+        return Ok(None);
+    };
+    let column = column_of(kind, cause);
+    if column == 0 {
+        return Ok(None);
+    }
+    let (row, column) = (row.saturating_sub(1), column.saturating_sub(1));
+    match shown_field(alloc, bytes, row as usize, column as usize)? {
+        Some(text) => Ok(Some(Word::from_string(text))),
+        None => Ok(None),
+    }
+}
+
+/// Returns the file of this kind that is refused with a fault, with the field that is refused.
+fn unread_of(alloc: Global, kind: FileKind, bytes: &[u8], fault: Fault) -> Unread
+    ensures { (result ≡ unread kind bytes.now fault) ⊎ (result ≡ unfound kind Memory) }
+{
+    match found_by(alloc, kind, bytes, fault) {
+        Ok(found) => Unread { kind, fault, found },
+        Err(fault) => unfound(kind, fault),
+    }
+}
+
+/// Returns the file of this kind that is refused with a fault at no field.
+fn unfound(kind: FileKind, fault: Fault) -> Unread
+    ensures { result ≡ unfound kind fault }
+{
+    Unread {
+        kind,
+        fault,
+        found: None,
+    }
+}
+
 /// Reads a file as its import does. One that cannot be read is `BadFile` with row 0 and `Unreadable`.
-fn lint_file<F: ReadFile>(alloc: Global, kind: FileKind, path: &str, files: &F) -> Result<(), Fault>
+fn lint_file<F: ReadFile>(
+    alloc: Global,
+    kind: FileKind,
+    path: &str,
+    files: &F,
+) -> Result<(), Unread>
     ensures { LintsFile (F.ReadFile.gives files.now) kind path.now result }
 {
-    match files.read(path, longest_of(kind))? {
-        Some(bytes) => read_as(alloc, kind, bytes.as_slice()),
-        None => Err(Fault::BadFile {
-            row: 0,
-            cause: FileCause::Unreadable,
-        }),
+    match files.read(path, longest_of(kind)) {
+        Ok(Some(bytes)) => match read_as(alloc, kind, bytes.as_slice()) {
+            Ok(()) => Ok(()),
+            Err(fault) => Err(unread_of(alloc, kind, bytes.as_slice(), fault)),
+        },
+        Ok(None) => Err(unfound(
+            kind,
+            Fault::BadFile {
+                row: 0,
+                cause: FileCause::Unreadable,
+            },
+        )),
+        Err(fault) => Err(unfound(kind, fault)),
     }
 }
 
@@ -220,7 +290,7 @@ fn lint_as<F: ReadFile>(alloc: Global, kind: LintKind, path: &str, files: &F) ->
         LintKind::Imported(kind) => {
             match lint_file(alloc, kind, path, files) {
                 Ok(()) => Ok(()),
-                Err(fault) => Err(Trouble::Unread(Unread { kind, fault })),
+                Err(unread) => Err(Trouble::Unread(unread)),
             }
         }
         LintKind::Script => lint_script(alloc, path, files),
@@ -239,7 +309,7 @@ fn write_sound_file<W: Write>(out: &mut W, path: &str) -> Result<(), Fault>
 }
 
 /// Reads a file as its import or its script would read it, and says that it can. Else the trouble is the first fault of
-/// that reading, with what is wanted there, or of a script the first line that cannot be run. An unknown kind is refused with status 2.
+/// that reading, with what was found and what is wanted there, or of a script the first line that cannot be run. An unknown kind is refused with status 2.
 ///
 /// A script's lines are read as over a project in `project.db`, which is not opened.
 pub fn lint<F: ReadFile, W: Write>(

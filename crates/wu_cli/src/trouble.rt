@@ -157,7 +157,7 @@ pub(crate) fn write_trouble<E: Write>(trouble: &Trouble, err: &mut E) -> Result<
         Trouble::Unmade(why) => line_of_unmade(err, *why),
         Trouble::NoFolder => write_line(err, "cannot write the outputs: the folder is not there"),
         Trouble::Lost(lost) => line_of_lost(err, *lost),
-        Trouble::Unread(unread) => text_of_unread(err, *unread),
+        Trouble::Unread(unread) => text_of_unread(err, unread),
     }
 }
 

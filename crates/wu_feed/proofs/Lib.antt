@@ -12,3 +12,4 @@ mod ScriptLemmas
 mod TemplateLemmas
 mod ToldLemmas
 mod FaultLemmas
+mod ShownLemmas

@@ -10,5 +10,6 @@ pub mod Reports
 pub mod Rows
 pub mod Scripts
 pub mod Sends
+pub mod Shown
 pub mod Templates
 pub mod Told

@@ -1,6 +1,6 @@
 -- The limits of files, templates and scripts, by the constants of the code.
 use Rattle.std.specs.Prelude.{ℕ}
-use Rattle.wu_feed.specs.declared.limits.TheConstants.{LAST_ROW, LONGEST_FILE, LONGEST_TEMPLATE, MOST_LINES, MOST_RECORDS, MOST_ROWS}
+use Rattle.wu_feed.specs.declared.limits.TheConstants.{LAST_ROW, LONGEST_FILE, LONGEST_TEMPLATE, MOST_LINES, MOST_RECORDS, MOST_ROWS, MOST_SHOWN}
 
 -- The most bytes of a file.
 abbrev pub longest_file : ℕ
@@ -25,3 +25,7 @@ most_records = MOST_RECORDS
 -- The most lines of a script.
 abbrev pub most_lines : ℕ
 most_lines = MOST_LINES
+
+-- The most bytes of a field that a report shows.
+abbrev pub most_shown : ℕ
+most_shown = MOST_SHOWN

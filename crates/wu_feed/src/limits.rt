@@ -17,3 +17,6 @@ pub const MOST_RECORDS: usize = MOST_ROWS as usize + 2;
 
 /// The most lines that a script may have.
 pub const MOST_LINES: usize = 1_000;
+
+/// The most bytes of a field that a report shows.
+pub const MOST_SHOWN: usize = 64;

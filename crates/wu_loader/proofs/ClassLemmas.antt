@@ -1,17 +1,14 @@
 -- The classes of hosts in order of their names, and those of workunits.
-use Rattle.wu_schema.proofs.Words.{AllByRecursion, None, World, flat_map, instances_of, IsAscending, IsPermutation, IsSorted, Less, List, Ordering, Row, Some, Workunit, [], ap, arith, class_cells, column, get_or, length, length-map, map, map-append, map-map, number, on_total, refl, slice_get, subst, suc, sym, take, workunit_row, zero, ℕ, ◌++◌, ◌+◌, ◌-◌, ◌<◌, ◌∙◌, ◌∷◌, ◌≡◌, ◌≢◌}
+use Rattle.wu_schema.proofs.Words.{AllByRecursion, None, World, flat_map, instances_of, IsPermutation, IsSorted, List, Row, Some, Workunit, [], ap, arith, class_cells, column, length, length-map, map, map-append, map-map, number, on_total, refl, slice_get, subst, suc, sym, take, workunit_row, zero, ℕ, ◌++◌, ◌+◌, ◌-◌, ◌<◌, ◌∙◌, ◌∷◌, ◌≡◌, ◌≢◌}
 use Rattle.std.specs.Cmp.{IsTotalOrder}
-use Rattle.std.specs.Cmp.Lexicographic.{slice_cmp}
-use Rattle.std.specs.Ordering.{is_lt, nat_cmp, on}
 use Rattle.std.specs.Prelude.{All}
 use Rattle.std.proofs.lemmas.Cmp.{nat_list_cmp_total}
-use Rattle.std.proofs.lemmas.List.{get_or-map, take-map, take_at}
+use Rattle.std.proofs.lemmas.List.{take-map, take_at}
 use Rattle.std.proofs.lemmas.List.Elements.{All-from_recursion, recursion_from_All}
+use Rattle.sqlite_trees.proofs.ListLemmas.{all-map, all_of, all_weaker, flat_map-map}
 use Rattle.wu_core.specs.Classes.{AreInOrder}
 use Rattle.wu_core.specs.Storable.{IsStorable}
 use Rattle.wu_core.specs.declared.workunit.HostClass.{HostClass}
-use Rattle.wu_core.proofs.HostLemmas.{Ascends, ascend_pairs, each_so, pairs_ascend}
-use Rattle.wu_store.proofs.OneOrder.{one_order}
 use Rattle.wu_store.proofs.SameWorld.{read_number, read_text}
 use Rattle.wu_loader.specs.Classing.{by_host, numbers, numbers_classed, unclassed, AreClassedBy, AreOfOthers, AreRising}
 use Rattle.wu_loader.specs.Rows.{classed_of, classed_row, IsStoredClass}
@@ -23,58 +20,13 @@ use Rattle.wu_loader.specs.declared.tables.ClassRows.{ClassRows}
 use Rattle.wu_loader.specs.declared.tables.TableRows.{TableRows}
 use Rattle.wu_loader.specs.declared.world.WithClasses.{WithClasses}
 use Rattle.wu_loader.proofs.WholeLemmas.{differs_mapped, got_behind, no_rows, rows_plain}
-use Rattle.wu_loader.proofs.WorkLemmas.{one_list}
+use Rattle.wu_loader.proofs.OrderLemmas.{ascending, in_pairs, named_are, one_list, pairs_rise}
 
 pub by_host_total : IsTotalOrder by_host
 by_host_total = on_total (λ (it : HostClass). it.host) nat_list_cmp_total
 
-abbrev Before : HostClass → HostClass → Type 0
-Before one other = by_host one other ≡ Less
-
--- ---- each is above the one before it, and above all before it
-
-tail_rising : (it : HostClass) (more : List HostClass) → AreRising (it ∷ more) → AreRising more
-tail_rising it more up k d low = let e : suc k + 1 ≡ suc (k + 1) = omega arith in subst (λ m. by_host (get_or more k d) (get_or (it ∷ more) m d) ≡ Less) e (up (suc k) d (omega (arith, low)))
-
-first_below : (it : HostClass) (more : List HostClass) → AreRising (it ∷ more) → AllByRecursion (Before it) more
-first_below it [] up = tt
-first_below it (one ∷ more) up =
-    let low : Before it one = up 0 it (omega arith) in
-    (low, each_so (Before one) (Before it) (λ x above. by_host_total.trans it one x low above) more (first_below one more (tail_rising it (one ∷ more) up)))
-
-ascending : (classes : List HostClass) → AreRising classes → Ascends Before classes
-ascending [] up = tt
-ascending (it ∷ more) up = (first_below it more up, ascending more (tail_rising it more up))
-
 pub rising_in_order : (classes : List HostClass) → AreRising classes → AreInOrder classes
-rising_in_order classes up = ascend_pairs Before classes (ascending classes up)
-
-pub in_order_rising : (classes : List HostClass) → AreInOrder classes → AreRising classes
-in_order_rising classes up k d low = up k (k + 1) d (omega arith) low
-
--- ---- rows in that order
-
-abbrev by_named : Row → Row → Ordering
-by_named = on (λ (r : Row). read_text (column r 0)) (slice_cmp nat_cmp)
-
-by_named_total : IsTotalOrder by_named
-by_named_total = on_total (λ (r : Row). read_text (column r 0)) nat_list_cmp_total
-
-named_rise : (classes : List HostClass) → Ascends Before classes → IsAscending (λ a b. by_named a b ≡ Less) (map class_cells classes)
-named_rise [] up = tt
-named_rise (it ∷ more) up = (above more up.0, named_rise more up.1)
-  where
-    above : (more : List HostClass) → AllByRecursion (Before it) more → AllByRecursion (λ b. by_named (class_cells it) b ≡ Less) (map class_cells more)
-    above [] all = tt
-    above (one ∷ more) all = (all.0, above more all.1)
-
-rows_sorted : (classes : List HostClass) → IsSorted by_host classes → IsSorted by_named (map class_cells classes)
-rows_sorted [] up = λ k d low high. absurd (omega (arith, high))
-rows_sorted (h ∷ more) up = λ k d low high.
-    let long = length-map (h ∷ more) class_cells in
-    let one : get_or (map class_cells (h ∷ more)) k d ≡ class_cells (get_or (h ∷ more) k h) = get_or-map class_cells (h ∷ more) k h d (omega (arith, high, long)) in
-    let two : get_or (map class_cells (h ∷ more)) (k + 1) d ≡ class_cells (get_or (h ∷ more) (k + 1) h) = get_or-map class_cells (h ∷ more) (k + 1) h d (omega (arith, high, long)) in
-    (λ i. is_lt (by_named (two i) (one i))) ∙ up k h low (omega (arith, high, long))
+rising_in_order classes up = in_pairs by_host classes (ascending by_host by_host_total classes up)
 
 one_host : (a b : HostClass) → class_cells a ≡ class_cells b → a ≡ b
 one_host a b same = λ i. record { host = read_text (column (same i) 0); class = read_number (column (same i) 1) }
@@ -82,8 +34,9 @@ one_host a b same = λ i. record { host = read_text (column (same i) 0); class =
 -- sorted ones that have the rows of ones in order are those
 pub rising_must : (classes sorted : List HostClass) → AreInOrder classes → IsSorted by_host sorted → IsPermutation (map class_cells classes) (map class_cells sorted) → AreRising sorted
 rising_must classes sorted in_order up same =
-    let rows : map class_cells sorted ≡ map class_cells classes = one_order by_named by_named_total (map class_cells classes) (map class_cells sorted) (named_rise classes (pairs_ascend Before classes in_order)) (rows_sorted sorted up) same in
-    subst AreRising (sym (one_list class_cells one_host sorted classes rows)) (in_order_rising classes in_order)
+    let rises : AreRising classes = pairs_rise by_host classes in_order in
+    let is = named_are (λ (it : HostClass). it.host) class_cells (λ it. refl) one_host classes sorted (ascending by_host by_host_total classes rises) up same in
+    subst AreRising (sym is) rises
 
 -- ---- the classes of workunits
 
@@ -93,18 +46,6 @@ one_classed a b same = λ i. record { workunit = read_number (column (same i) 0)
 pub numbers_of_rows : (vs ws : List Workunit) → map workunit_row vs ≡ map workunit_row ws → map (λ (w : Workunit). w.number) vs ≡ map (λ (w : Workunit). w.number) ws
 numbers_of_rows vs ws same =
     sym (map-map (λ (r : Row). read_number (column r 0)) workunit_row vs) ∙ ap (map (λ (r : Row). read_number (column r 0))) same ∙ map-map (λ (r : Row). read_number (column r 0)) workunit_row ws
-
--- where the first workunit without a class has not the number that stands in its place, these are the classes of others
-pub others_from : (before rest : List Workunit) (w : Workunit) (classed : List Workunit) (classes : List Classed) → map unclassed classed ≡ map unclassed before → ((one : Classed) → slice_get classes (length classed) ≡ Some one → one.workunit ≢ w.number) → AreOfOthers (before ++ w ∷ rest) classes
-others_from [] rest w [] [] so_far other same = absurd cc
-others_from [] rest w [] (c ∷ cs) so_far other same = let first : c.workunit ≡ w.number = cc in other c refl first
-others_from [] rest w (x ∷ xs) classes so_far other same = absurd cc
-others_from (y ∷ ys) rest w [] classes so_far other same = absurd cc
-others_from (y ∷ ys) rest w (x ∷ xs) [] so_far other same = absurd cc
-others_from (y ∷ ys) rest w (x ∷ xs) (c ∷ cs) so_far other same =
-    let tail : map unclassed xs ≡ map unclassed ys = cc in
-    let more : map (λ (u : Workunit). u.number) (ys ++ w ∷ rest) ≡ map (λ (it : Classed). it.workunit) cs = cc in
-    others_from ys rest w xs cs tail other more
 
 pub not_classed : (classes : List Classed) (n m : ℕ) → ((one : Classed) → slice_get classes n ≡ Some one → one.workunit ≢ m) → slice_get (numbers_classed classes) n ≢ Some m
 not_classed [] n m other is = absurd cc
@@ -149,12 +90,10 @@ pub rows_unclassed : (ws : List Workunit) → map workunit_row (map unclassed ws
 rows_unclassed ws = map-map workunit_row unclassed ws
 
 instances_unclassed : (ws : List Workunit) → flat_map instances_of (map unclassed ws) ≡ flat_map instances_of ws
-instances_unclassed [] = refl
-instances_unclassed (w ∷ ws) = ap (λ rows. instances_of w ++ rows) (instances_unclassed ws)
+instances_unclassed = flat_map-map instances_of unclassed
 
 unclassed_all : (ws : List Workunit) → AllByRecursion (λ (w : Workunit). w.class ≡ 0) (map unclassed ws)
-unclassed_all [] = tt
-unclassed_all (w ∷ ws) = (refl, unclassed_all ws)
+unclassed_all ws = all-map (λ (w : Workunit). w.class ≡ 0) unclassed ws (all_of _ (λ w. refl) ws)
 
 -- ---- what was found
 
@@ -162,7 +101,7 @@ pub found_none : (workunits : List Workunit) (found : WithClasses) → found.wor
 found_none workunits found is empty = record {
   same = ap (map unclassed) is ∙ map-map unclassed unclassed workunits;
   classes = λ world works hosts. record { hosts = hosts ∙ empty; workunits = subst (AllByRecursion (λ (w : Workunit). w.class ≡ 0)) (sym (works ∙ is)) (unclassed_all workunits) };
-  in_order = subst AreInOrder (sym empty) (ascend_pairs Before [] tt);
+  in_order = subst AreInOrder (sym empty) (λ i j d less low. absurd (omega (arith, low)));
 }
 
 pub found_classes : (workunits : List Workunit) (rows : ClassRows) (classes : List Classed) (found : WithClasses) → rows.workunits.items ≡ map classed_row classes → AreClassedBy workunits classes found.workunits.items
@@ -196,8 +135,7 @@ found_rows version rows plain found are has is = record {
 -- ---- where a row is that of none
 
 classes_stored : (ws : List Workunit) → AllByRecursion IsStorable ws → AllByRecursion IsStoredClass (map classed_of ws)
-classes_stored [] each = tt
-classes_stored (w ∷ ws) each = (each.0.class, classes_stored ws each.1)
+classes_stored ws each = all-map IsStoredClass classed_of ws (all_weaker IsStorable (λ w. IsStoredClass (classed_of w)) (λ w is. is.class) ws each)
 
 pub never_classed : (rows : List Row) (place : ℕ) → IsNoRow (λ _. classed_row) IsStoredClass rows place → (ws : List Workunit) → All IsStorable ws → rows ≢ map classed_row (map classed_of ws)
 never_classed rows place none ws storable are =

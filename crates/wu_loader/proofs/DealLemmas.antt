@@ -1,7 +1,8 @@
 -- The order of instances, and which of them are a workunit's.
-use Rattle.wu_schema.proofs.Words.{AllByRecursion, Err, Ok, OnOk, Result, Instance, List, Workunit, all_has, drop, flat_map, has_right, inl, length-map, map-append, ◌≢◌, ◌≤◌, [], ap, arith, enumerate_from, length, map, on_total, refl, sym, subst, suc, take, ℕ, ◌++◌, ◌-◌, ◌+◌, ◌<◌, ◌∙◌, ◌∷◌, ◌≡◌, append-nil}
+use Rattle.wu_schema.proofs.Words.{AllByRecursion, Instance, List, Workunit, all_has, drop, flat_map, has_right, inl, map-append, ◌≢◌, ◌≤◌, [], ap, arith, enumerate_from, length, map, on_total, refl, sym, subst, suc, take, ℕ, ◌++◌, ◌-◌, ◌+◌, ◌<◌, ◌∙◌, ◌∷◌, ◌≡◌, append-nil}
 use Rattle.std.specs.Prelude.{All}
-use Rattle.std.proofs.lemmas.List.{append_assoc, length-append, take_at}
+use Rattle.std.proofs.lemmas.List.{append_assoc, append_cancel_left, length-append, take_at}
+use Rattle.std.proofs.lemmas.List.Concat.{flat_map-append}
 use Rattle.std.proofs.lemmas.List.Elements.{All-nil, All-push, recursion_from_All}
 use Rattle.wu_core.specs.Limits.{most_instances}
 use Rattle.std.proofs.lemmas.Cmp.{nat_cmp_total, then_total}
@@ -31,12 +32,6 @@ taken_more workunit instances all left rest p so_far front next =
     let same : p ≡ record { workunit = workunit; n = 0 + length instances; instance = p.instance } = λ k. record { workunit = is.0 k; n = n k; instance = p.instance } in
     so_far ∙ ap (λ ps. placed_from workunit instances ++ ps) front ∙ (λ k. placed_from workunit instances ++ same k ∷ rest)
     ∙ sym (append_assoc (placed_from workunit instances) (record { workunit = workunit; n = 0 + length instances; instance = p.instance } ∷ []) rest) ∙ ap (λ ps. ps ++ rest) (sym (more_at workunit 0 instances p.instance))
-
--- ---- through a result
-
-pub on_ok_then : {T F : Type 0} (r : Result T F) (P Q : Type 0) → (P → Q) → OnOk r P → OnOk r Q
-on_ok_then (Ok x) P Q f h = f h
-on_ok_then (Err e) P Q f h = tt
 
 -- ---- workunits are dealt their instances
 
@@ -69,14 +64,6 @@ never_next workunit n (w ∷ ws) above next = go w.instances (never_next workuni
 ordered_from : (before : List Workunit) (w : Workunit) (more : List Workunit) → IsOrdered (before ++ w ∷ more) → AllByRecursion (λ (u : Workunit). w.number < u.number) more
 ordered_from [] w more up = up.0
 ordered_from (v ∷ before) w more up = ordered_from before w more up.1
-
-flat_append : (xs ys : List Workunit) → flat_map placed_of (xs ++ ys) ≡ flat_map placed_of xs ++ flat_map placed_of ys
-flat_append [] ys = refl
-flat_append (x ∷ xs) ys = ap (λ ps. placed_of x ++ ps) (flat_append xs ys) ∙ sym (append_assoc (placed_of x) (flat_map placed_of xs) (flat_map placed_of ys))
-
-cancelled : {X : Type 0} (xs ys zs : List X) → xs ++ ys ≡ xs ++ zs → ys ≡ zs
-cancelled [] ys zs same = same
-cancelled (x ∷ xs) ys zs same = cancelled xs ys zs (ap (drop 1) same)
 
 -- what is next is so in front of others
 next_front : (workunit n : ℕ) (front back : List Placed) → IsNext workunit n front → IsNext workunit n (front ++ back)
@@ -117,7 +104,7 @@ module _ (workunits : List Workunit) (placed : List Placed) (yielded rest dealt 
 
   flat_more : (front : List Placed) → flat_map placed_of (dealt ++ with_its ∷ []) ++ front ≡ flat_map placed_of dealt ++ (placed_from w.number is ++ front)
   flat_more front =
-      ap (λ ps. ps ++ front) (flat_append dealt (with_its ∷ []) ∙ ap (λ ps. flat_map placed_of dealt ++ ps) (append-nil (placed_from w.number is)))
+      ap (λ ps. ps ++ front) (flat_map-append placed_of dealt (with_its ∷ []) ∙ ap (λ ps. flat_map placed_of dealt ++ ps) (append-nil (placed_from w.number is)))
       ∙ append_assoc (flat_map placed_of dealt) (placed_from w.number is) front
 
   module _ (front back : List Placed) (covers : front ++ back ≡ next) (some : front ≢ []) (ws : List Workunit) (up : IsOrdered ws) (dealt_so : AreDealt workunits (flat_map placed_of (dealt ++ with_its ∷ []) ++ front) ws) where
@@ -133,7 +120,7 @@ module _ (workunits : List Workunit) (placed : List Placed) (yielded rest dealt 
         go more split = from more split bares
           where
             bares : map lone more ≡ lone w ∷ map lone rest
-            bares = cancelled (map lone dealt) (map lone more) (lone w ∷ map lone rest)
+            bares = append_cancel_left (map lone dealt) (map lone more) (lone w ∷ map lone rest)
                 (sym (map-append lone dealt more) ∙ ap (map lone) (sym split) ∙ are.bare ∙ ap (map lone) (sym so_far.whole) ∙ map-append lone yielded (w ∷ rest) ∙ ap (λ bs. bs ++ (lone w ∷ map lone rest)) (sym so_far.bare))
 
             from : (more : List Workunit) → ws ≡ dealt ++ more → map lone more ≡ lone w ∷ map lone rest → IsFollowed ws
@@ -142,7 +129,7 @@ module _ (workunits : List Workunit) (placed : List Placed) (yielded rest dealt 
                 let one : lone v ≡ lone w = cc in
                 let number : w.number ≡ v.number = ap (λ (u : Workunit). u.number) (sym one) in
                 let lists : placed_from w.number is ++ front ≡ placed_of v ++ flat_map placed_of more =
-                cancelled (flat_map placed_of dealt) (placed_from w.number is ++ front) (placed_of v ++ flat_map placed_of more) (sym are.all ∙ ap (flat_map placed_of) split ∙ flat_append dealt (v ∷ more)) in
+                append_cancel_left (flat_map placed_of dealt) (placed_from w.number is ++ front) (placed_of v ++ flat_map placed_of more) (sym are.all ∙ ap (flat_map placed_of) split ∙ flat_map-append placed_of dealt (v ∷ more)) in
                 let above = ordered_from dealt v more (subst IsOrdered split up) in
                 let few_v : HasFew v = one_of HasFew dealt v more (subst (All HasFew) split are.few) in
                 let runs : placed_from w.number is ++ front ≡ placed_from w.number v.instances ++ flat_map placed_of more = lists ∙ ap (λ k. placed_from k v.instances ++ flat_map placed_of more) (sym number) in
@@ -178,19 +165,11 @@ module _ (workunits : List Workunit) (placed : List Placed) (yielded dealt : Lis
   front_undealt front back covers some ws up are = let it = so_far.only front back covers some ws up are in go it.0 it.1
     where
       go : (more : List Workunit) → ws ≡ dealt ++ more → ⊥
-      go [] split = some (cancelled (flat_map placed_of dealt) front [] (sym are.all ∙ ap (flat_map placed_of) split ∙ flat_append dealt []))
+      go [] split = some (append_cancel_left (flat_map placed_of dealt) front [] (sym are.all ∙ ap (flat_map placed_of) split ∙ flat_map-append placed_of dealt []))
       go (v ∷ more) split =
-          let counts : length (map lone dealt) ≡ length (map lone yielded) = ap (λ bs. length bs) so_far.bare in
-          let all : length (map lone ws) ≡ length (map lone workunits) = ap (λ bs. length bs) are.bare in
-          let a = length-map dealt lone in
-          let b = length-map yielded lone in
-          let d = length-map ws lone in
-          let e = length-map workunits lone in
-          let f : length ws ≡ length (dealt ++ v ∷ more) = ap (λ bs. length bs) split in
-          let g = length-append dealt (v ∷ more) in
-          let h : length (yielded ++ []) ≡ length workunits = ap (λ bs. length bs) so_far.whole in
-          let k = length-append yielded [] in
-          omega (arith, counts, all, a, b, d, e, f, g, h, k)
+          let none : lone v ∷ map lone more ≡ [] = append_cancel_left (map lone dealt) (lone v ∷ map lone more) []
+          (sym (map-append lone dealt (v ∷ more)) ∙ ap (map lone) (sym split) ∙ are.bare ∙ sym bares_are ∙ sym (append-nil (map lone dealt))) in
+          absurd cc
 
   pub deals_left : left ≢ [] → (ws : List Workunit) → IsOrdered ws → ¬ AreDealt workunits placed ws
   deals_left some ws up are = front_undealt left [] (append-nil left) some ws up (subst (λ ps. AreDealt workunits ps ws) (sym so_far.all) are)

@@ -1,7 +1,7 @@
 -- The first wrong row, in the written order of the tables.
 use Rattle.wu_schema.proofs.Words.{List, None, Option, Row, Some, [], ap, arith, inl, inr, refl, subst, sym, ℕ, ◌+◌, ◌<◌, ◌∙◌, ◌∷◌, ◌≡◌}
 use Rattle.std.proofs.Common.{below_more, get_or}
-use Rattle.wu_loader.specs.First.{rank, AreHostClasses, AreRightBefore, IsFirstClass, IsFirstPlain, IsFirstWrong, IsRightOfClasses, IsRightPlain}
+use Rattle.wu_loader.specs.First.{rank, AreHostClasses, AreRightBefore, IsFirstClass, IsFirstPlain, IsFirstWrong, IsRightClass, IsRightOfClasses, IsRightPlain}
 use Rattle.wu_loader.specs.Wrongs.{IsWrongClass, IsWrongClassAt, IsWrongPlainAt}
 use Rattle.wu_loader.specs.declared.finding.LoadedTable.{LoadedTable}
 use Rattle.wu_loader.specs.declared.finding.LoadedTable.TheVariants as table
@@ -77,30 +77,22 @@ module _ (version : ℕ) (rows : PlainRows) where
 
 -- ---- the tables of classes
 
--- nothing is asked of the tables of every version
+-- of these alone the first has something asked of it
+class_right : (rows : ClassRows) (which : LoadedTable) → (which ≡ table.HostClass → AreHostClasses rows.hosts.items) → IsRightClass rows which
+class_right rows table.Project right = tt
+class_right rows table.Workunit right = tt
+class_right rows table.Result right = tt
+class_right rows table.CreditGrant right = tt
+class_right rows table.Host right = tt
+class_right rows table.Archived right = tt
+class_right rows table.Import right = tt
+class_right rows table.HostClass right = right refl
+class_right rows table.WorkunitClass right = tt
+
+-- it comes behind the tables of every version
 classes_below : (rows : Option ClassRows) (which : LoadedTable) → rank which < 7 → IsRightOfClasses rows which
 classes_below None which low = tt
-classes_below (Some rows) table.Project low = tt
-classes_below (Some rows) table.Workunit low = tt
-classes_below (Some rows) table.Result low = tt
-classes_below (Some rows) table.CreditGrant low = tt
-classes_below (Some rows) table.Host low = tt
-classes_below (Some rows) table.Archived low = tt
-classes_below (Some rows) table.Import low = tt
-classes_below (Some rows) table.HostClass low = absurd (omega (arith, low))
-classes_below (Some rows) table.WorkunitClass low = tt
-
--- the classes of hosts come before those of workunits
-classes_with : (rows : ClassRows) → AreHostClasses rows.hosts.items → (which : LoadedTable) → IsRightOfClasses (Some rows) which
-classes_with rows right table.Project = tt
-classes_with rows right table.Workunit = tt
-classes_with rows right table.Result = tt
-classes_with rows right table.CreditGrant = tt
-classes_with rows right table.Host = tt
-classes_with rows right table.Archived = tt
-classes_with rows right table.Import = tt
-classes_with rows right table.HostClass = right
-classes_with rows right table.WorkunitClass = tt
+classes_below (Some rows) which low = class_right rows which (λ is. absurd (let high : rank which ≡ 7 = ap rank is in omega (arith, low, high)))
 
 module _ (works : List Row) (rows : ClassRows) (wrong : WrongRow) where
   pub first_host_class : wrong.table ≡ table.HostClass → IsWrongClassAt works rows table.HostClass wrong.place → IsFirstClass works (Some rows) wrong
@@ -112,7 +104,7 @@ module _ (works : List Row) (rows : ClassRows) (wrong : WrongRow) where
   pub first_workunit_class : AreHostClasses rows.hosts.items → wrong.table ≡ table.WorkunitClass → IsWrongClassAt works rows table.WorkunitClass wrong.place → IsFirstClass works (Some rows) wrong
   first_workunit_class right is at = record {
     wrong_row = at_table (IsWrongClassAt works rows) table.WorkunitClass wrong (is, at);
-    before = λ which low. classes_with rows right which;
+    before = λ which low. class_right rows which (λ is. right);
   }
 
 -- ---- all tables

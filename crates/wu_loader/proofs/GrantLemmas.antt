@@ -1,49 +1,34 @@
 -- What hosts were granted, and whether they are those of the grants.
-use Rattle.wu_schema.proofs.Words.{AllByRecursion, IsAscending, IsPermutation, IsSorted, Row, column, length-map, map-map, Less, Has, all_from, all_has, has_mapped, hosts_of, map, mapped_has, Grant, List, Ordering, [], ap, arith, get_or, length, on_total, refl, subst, suc, sym, zero, ℕ, ◌+◌, ◌<◌, ◌∙◌, ◌∷◌, ◌≡◌, inl, inr}
+use Rattle.wu_schema.proofs.Words.{AllByRecursion, IsAscending, IsPermutation, IsSorted, Row, column, map-map, Less, Has, all_from, all_has, has_mapped, hosts_of, map, mapped_has, Grant, List, [], ap, arith, get_or, length, on_total, refl, subst, suc, sym, zero, ℕ, ◌<◌, ◌∙◌, ◌∷◌, ◌≡◌, inl, inr}
 use Rattle.std.specs.Cmp.{IsTotalOrder}
 use Rattle.std.proofs.lemmas.Cmp.{nat_list_cmp_total}
 use Rattle.wu_core.specs.Hosts.{credit_of, grants_of}
 use Rattle.std.specs.Cmp.Lexicographic.{slice_cmp}
-use Rattle.std.specs.Ordering.{is_lt, nat_cmp, on}
+use Rattle.std.specs.Ordering.{nat_cmp}
 use Rattle.std.specs.Prelude.{All}
-use Rattle.std.proofs.lemmas.List.{get_or-map}
 use Rattle.wu_core.specs.Storable.{IsName}
-use Rattle.wu_store.proofs.OneOrder.{one_order}
+use Rattle.sqlite_trees.proofs.ListLemmas.{all-map, ascending-map}
 use Rattle.wu_store.proofs.SameWorld.{read_number, read_text}
 use Rattle.wu_store.proofs.HostNames.{Below, each_host, granted_there, host_there, same_names, some_grant}
 use Rattle.wu_loader.specs.Whole.{IsNoRow}
 use Rattle.wu_loader.proofs.WholeLemmas.{none_permuted}
-use Rattle.wu_loader.proofs.WorkLemmas.{one_list}
+use Rattle.wu_loader.proofs.OrderLemmas.{ascending, ascends, in_pairs, named_are, pairs_rise}
 use Rattle.std.proofs.lemmas.List.Elements.{All-from_recursion, recursion_from_All}
 use Rattle.wu_schema.specs.Refines.{host_of}
 use Rattle.wu_schema.specs.Stored.{host_cells}
 use Rattle.wu_loader.specs.Rows.{host_row, IsStoredGrant, IsStoredHost}
-use Rattle.wu_core.proofs.HostLemmas.{Ascends, once}
+use Rattle.wu_core.proofs.HostLemmas.{Ascends, once, pairs_ascend}
 use Rattle.wu_loader.specs.Granting.{by_name, AreHosts, IsGranted, IsListed, Rise}
 use Rattle.wu_loader.specs.declared.rows.Host.{Host}
 
 pub by_name_total : IsTotalOrder by_name
 by_name_total = on_total (λ (h : Host). h.name) nat_list_cmp_total
 
--- ---- names that rise
-
 -- hosts of which each is above the one before it rise
 rise_names : (hosts : List Host) → Rise hosts → Ascends Below (map (λ (h : Host). h.name) hosts)
-rise_names [] up = tt
-rise_names (h ∷ hosts) up = (
-  all_names hosts h up,
-  rise_names hosts (λ k d low. let e : suc k + 1 ≡ suc (k + 1) = omega arith in subst (λ n. by_name (get_or hosts k d) (get_or (h ∷ hosts) n d) ≡ Less) e (up (suc k) d (omega (arith, low)))),
-)
-  where
-    all_names : (hosts : List Host) (h : Host) → Rise (h ∷ hosts) → AllByRecursion (Below h.name) (map (λ (g : Host). g.name) hosts)
-    all_names [] h up = tt
-    all_names (g ∷ hosts) h up =
-        let low : Below h.name g.name = up 0 h (omega arith) in
-        (low, higher hosts g h.name low (all_names hosts g (λ k d less. let e : suc k + 1 ≡ suc (k + 1) = omega arith in subst (λ n. by_name (get_or (g ∷ hosts) k d) (get_or (h ∷ g ∷ hosts) n d) ≡ Less) e (up (suc k) d (omega (arith, less))))))
-      where
-        higher : (hosts : List Host) (g : Host) (a : List ℕ) → Below a g.name → AllByRecursion (Below g.name) (map (λ (x : Host). x.name) hosts) → AllByRecursion (Below a) (map (λ (x : Host). x.name) hosts)
-        higher [] g a low all = tt
-        higher (x ∷ hosts) g a low all = (nat_list_cmp_total.trans a g.name x.name low all.0, higher hosts g a low all.1)
+rise_names hosts up =
+    let names = ascending-map Below (λ (h : Host). h.name) hosts (ascending by_name by_name_total hosts up) in
+    pairs_ascend Below _ (in_pairs (slice_cmp nat_cmp) _ names)
 
 -- ---- hosts that are those of the grants
 
@@ -83,28 +68,6 @@ module _ (grants : List Grant) (hosts : List Host) where
 
 -- ---- no other hosts are
 
-abbrev by_named : Row → Row → Ordering
-by_named = on (λ (r : Row). read_text (column r 0)) (slice_cmp nat_cmp)
-
-by_named_total : IsTotalOrder by_named
-by_named_total = on_total (λ (r : Row). read_text (column r 0)) nat_list_cmp_total
-
-named_rise : (grants : List Grant) (names : List (List ℕ)) → Ascends Below names → IsAscending (λ a b. by_named a b ≡ Less) (map (host_of grants) names)
-named_rise grants [] up = tt
-named_rise grants (n ∷ names) up = (above names up.0, named_rise grants names up.1)
-  where
-    above : (names : List (List ℕ)) → AllByRecursion (Below n) names → AllByRecursion (λ b. by_named (host_of grants n) b ≡ Less) (map (host_of grants) names)
-    above [] all = tt
-    above (m ∷ names) all = (all.0, above names all.1)
-
-rows_sorted : (hosts : List Host) → IsSorted by_name hosts → IsSorted by_named (map host_row hosts)
-rows_sorted [] up = λ k d low high. absurd (omega (arith, high))
-rows_sorted (h ∷ hosts) up = λ k d low high.
-    let long = length-map (h ∷ hosts) host_row in
-    let one : get_or (map host_row (h ∷ hosts)) k d ≡ host_row (get_or (h ∷ hosts) k h) = get_or-map host_row (h ∷ hosts) k h d (omega (arith, high, long)) in
-    let two : get_or (map host_row (h ∷ hosts)) (k + 1) d ≡ host_row (get_or (h ∷ hosts) (k + 1) h) = get_or-map host_row (h ∷ hosts) (k + 1) h d (omega (arith, high, long)) in
-    (λ i. is_lt (by_named (two i) (one i))) ∙ up k h low (omega (arith, high, long))
-
 one_host : (a b : Host) → host_row a ≡ host_row b → a ≡ b
 one_host a b same = λ i. record { name = read_text (column (same i) 0); total = read_number (column (same i) 1); grants = read_number (column (same i) 2) }
 
@@ -112,11 +75,8 @@ module _ (grants : List Grant) where
   abbrev all_with : List (List ℕ) → List Host
   all_with names = map (host_with grants) names
 
-  with_rise : (names : List (List ℕ)) → Ascends Below names → Rise (all_with names)
-  with_rise [] up k d low = absurd (omega (arith, low))
-  with_rise (n ∷ []) up k d low = absurd (omega (arith, low))
-  with_rise (n ∷ m ∷ names) up zero d low = up.0.0
-  with_rise (n ∷ m ∷ names) up (suc k) d low = let e : suc (k + 1) ≡ suc k + 1 = omega arith in subst (λ j. by_name (get_or (all_with (m ∷ names)) k d) (get_or (all_with (n ∷ m ∷ names)) j d) ≡ Less) e (with_rise (m ∷ names) up.1 k d (omega (arith, low)))
+  with_rise : (names : List (List ℕ)) → Ascends Below names → IsAscending (λ a b. by_name a b ≡ Less) (all_with names)
+  with_rise names up = ascending-map (λ a b. by_name a b ≡ Less) (host_with grants) names (ascends Below names up)
 
   with_each : (names : List (List ℕ)) → ((n : List ℕ) → Has names n → Has (hosts_of grants) n) → AllByRecursion (IsGranted grants) (all_with names)
   with_each [] there = tt
@@ -129,7 +89,7 @@ module _ (grants : List Grant) where
 
   hosts_with : AreHosts grants (all_with (hosts_of grants))
   hosts_with = record {
-    rise = with_rise (hosts_of grants) (once grants);
+    rise = pairs_rise by_name _ (in_pairs by_name _ (with_rise (hosts_of grants) (once grants)));
     each = All-from_recursion (IsGranted grants) (all_with (hosts_of grants)) (with_each (hosts_of grants) (λ n has. has));
     listed = All-from_recursion (λ (g : Grant). IsListed (all_with (hosts_of grants)) g.host) grants (all_from (λ (g : Grant). IsListed (all_with (hosts_of grants)) g.host) grants (λ g has. with_listed (hosts_of grants) g.host (host_there grants g has)));
   }
@@ -137,18 +97,15 @@ module _ (grants : List Grant) where
   -- hosts whose rows are those of the grants' hosts are these
   pub hosts_must : (hosts : List Host) → IsSorted by_name hosts → IsPermutation (map (host_of grants) (hosts_of grants)) (map host_row hosts) → AreHosts grants hosts
   hosts_must hosts up same =
-      let rows : map host_row hosts ≡ map (host_of grants) (hosts_of grants) = one_order by_named by_named_total (map (host_of grants) (hosts_of grants)) (map host_row hosts) (named_rise grants (hosts_of grants) (once grants)) (rows_sorted hosts up) same in
-      let is : hosts ≡ all_with (hosts_of grants) = one_list host_row one_host hosts (all_with (hosts_of grants)) (rows ∙ sym (map-map host_row (host_with grants) (hosts_of grants))) in
-      subst (AreHosts grants) (sym is) hosts_with
+      let all = all_with (hosts_of grants) in
+      let rows : IsPermutation (map host_row all) (map host_row hosts) = subst (λ rs. IsPermutation rs (map host_row hosts)) (sym (map-map host_row (host_with grants) (hosts_of grants))) same in
+      subst (AreHosts grants) (sym (named_are (λ (h : Host). h.name) host_row (λ h. refl) one_host all hosts (with_rise (hosts_of grants) (once grants)) up rows)) hosts_with
 
 -- names of grants are names of hosts
 pub stored_hosts : (grants : List Grant) → All IsStoredGrant grants → All IsStoredHost (all_with grants (hosts_of grants))
 stored_hosts grants stored =
-    All-from_recursion IsStoredHost (all_with grants (hosts_of grants)) (named (hosts_of grants) (each_host IsName grants (all_from (λ (g : Grant). IsName g.host) grants (λ g has. (all_has IsStoredGrant grants g (recursion_from_All IsStoredGrant grants stored) has).host))))
-  where
-    named : (names : List (List ℕ)) → AllByRecursion IsName names → AllByRecursion IsStoredHost (all_with grants names)
-    named [] all = tt
-    named (n ∷ names) all = (all.0, named names all.1)
+    let names = each_host IsName grants (all_from (λ (g : Grant). IsName g.host) grants (λ g has. (all_has IsStoredGrant grants g (recursion_from_All IsStoredGrant grants stored) has).host)) in
+    All-from_recursion IsStoredHost (all_with grants (hosts_of grants)) (all-map IsStoredHost (host_with grants) (hosts_of grants) names)
 
 -- a row that is that of no host is in the way
 pub never_hosts : (rows : List Row) (grants : List Grant) (place : ℕ) → IsNoRow (λ _. host_row) IsStoredHost rows place → All IsStoredGrant grants → ¬ IsPermutation (map (host_of grants) (hosts_of grants)) rows

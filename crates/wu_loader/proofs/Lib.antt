@@ -6,9 +6,11 @@ mod QuestionLemmas
 pub mod LookLemmas
 pub mod StandLemmas
 pub mod DealLemmas
+pub mod OrderLemmas
 pub mod WorkLemmas
 pub mod GrantLemmas
 pub mod RunLemmas
 pub mod ListedLemmas
 pub mod ClassLemmas
 mod FirstLemmas
+pub mod TotalLemmas

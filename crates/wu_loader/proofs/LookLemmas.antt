@@ -1,6 +1,6 @@
 -- From question to question about the tables.
-use Rattle.wu_schema.proofs.Words.{Database, Err, Fault, Ghosts, HasCleanDisk, HasTables, Held, IfErr, IsErrAnd, IsFailure, Ok, ProjectTrees, Result, arith, state, subst, sym, ℕ, ◌∙◌, ◌≡◌, ◌≢◌}
-use Rattle.wu_core.specs.declared.fault.Fault.TheVariants.{Broken}
+use Rattle.wu_schema.proofs.Words.{Database, Err, Fault, Ghosts, HasCleanDisk, HasTables, Held, IfErr, IsErrAnd, IsFailure, Ok, ProjectTrees, Result, arith, inl, inr, refl, state, subst, sym, ℕ, ◌∙◌, ◌≡◌, ◌≢◌}
+use Rattle.wu_core.specs.declared.fault.Fault.TheVariants.{Broken, Memory}
 use Rattle.wu_schema.proofs.AskingLemmas.{asks_fault, asks_made, asks_now, asks_then}
 use Rattle.wu_loader.specs.Asked.{HasArranged, Looks}
 
@@ -13,6 +13,9 @@ HasLooked version g old new Is = Looks {T = Unit {0}} version g old new (Ok tt) 
 
 pub never_broken : {T : Type 0} (x : T) → ◌≢◌ {A = Result T Fault} (Ok x) (Err Broken)
 never_broken x is = absurd cc
+
+pub memory_other : {T : Type 0} → ◌≢◌ {A = Result T Fault} (Err Memory) (Err Broken)
+memory_other is = absurd cc
 
 module _ {S : Type 0} (version : ℕ) (g : Ghosts S) (a b : Held S) where
   -- the first answer
@@ -33,6 +36,16 @@ module _ {S : Type 0} (version : ℕ) (g : Ghosts S) (a b : Held S) where
     says = λ clean trees has. made (state g a).now trees (it.says clean trees has);
     fault = tt;
     answered = λ clean trees has unlimited. tt;
+  }
+
+  -- want of memory after the answers
+  pub looks_memory : {U : Type 0} (Is : Known) (Then : Database → ProjectTrees → U → Type 0) → HasLooked version g a b Is → Looks version g a b (Err Memory) Then
+  looks_memory Is Then it = record {
+    asks = asks_made g a b tt (Err Memory) memory_other it.asks;
+    opens = λ clean. inr (it.opens clean);
+    says = λ clean trees has. tt;
+    fault = inl refl;
+    answered = λ clean trees has unlimited. inl refl;
   }
 
   -- a fault that is handed on
@@ -79,8 +92,3 @@ module _ {S : Type 0} (version : ℕ) (g : Ghosts S) (a b c : Held S) (Is : Know
     fault = two.fault;
     answered = λ clean trees has unlimited. two.answered clean trees (subst (λ (db : Database). HasTables version db.schema trees) (sym (same (Err fault) Then two clean)) has) (limit (Err fault) Then two ∙ unlimited);
   }) r told
-
--- a failure that is handed on is one
-pub failed_on : {U : Type 0} (r : Result U Fault) (fault : Fault) → IsErrAnd r (λ other. other ≡ fault) → IsFailure fault → IfErr r IsFailure
-failed_on (Ok y) fault same failed = tt
-failed_on (Err other) fault same failed = subst IsFailure (sym same) failed

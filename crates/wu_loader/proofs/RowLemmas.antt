@@ -1,21 +1,20 @@
 -- How rows read as values.
-use Rattle.wu_schema.proofs.Words.{Archived, Err, Fault, Grant, Import, Instance, IsErrAnd, NotAProject, Ok, Result, Row, Value, [], ap, column, drop, import_cells, inl, inr, instance_row, length, map, number, number_or_null, refl, subst, sym, text_or_null, ℕ, ⊤, ◌++◌, ◌∙◌, ◌∷◌, ◌≡◌, ◌≢◌, ◌≤◌}
+use Rattle.wu_schema.proofs.Words.{Err, Fault, Grant, Import, Instance, IsErrAnd, NotAProject, Ok, Result, Row, Value, [], ap, column, drop, import_cells, inl, inr, instance_row, length, map, number, refl, subst, suc, sym, text_or_null, ℕ, ⊤, ◌++◌, ◌∙◌, ◌∷◌, ◌≡◌}
 use Rattle.std.specs.List.{range_with_len}
 use Rattle.wu_core.specs.World.{MayBeKept}
 use Rattle.sqlite.specs.declared.types.Value.TheVariants.{Text, Blob}
-use Rattle.wu_core.specs.Limits.{last_moment}
-use Rattle.wu_core.specs.Storable.{AreVerdicts, IsHost, IsName, IsOutput, IsPlace, IsStoredArchived, MayBeInstance}
-use Rattle.wu_core.proofs.MaskLemmas.{flags_of}
+use Rattle.wu_core.specs.Storable.{AreVerdicts, IsHost, IsName, IsOutput, MayBeInstance}
 use Rattle.wu_schema.specs.Restoring.{Restores}
-use Rattle.wu_schema.specs.Reading.{columns, kind_cell, mask_cell, verdicts_cell}
+use Rattle.wu_schema.specs.Reading.{columns, kind_cell, verdicts_cell}
 use Rattle.wu_core.specs.Formed.{IsInstance}
-use Rattle.wu_schema.proofs.ReadingLemmas.{as_columns, not_ok, same_verdicts}
-use Rattle.wu_store.proofs.SameWorld.{kind_again, kind_of, mask_again, maybe_again, read_blob, read_maybe, read_number, read_text, same_instances}
+use Rattle.wu_schema.proofs.ReadLemmas.{if_ok}
+use Rattle.wu_schema.proofs.ReadingLemmas.{not_ok, same_verdicts, whole_row}
+use Rattle.wu_store.proofs.SameWorld.{kind_again, kind_of, read_blob, read_number, read_text, same_instances}
 use Rattle.wu_loader.specs.Cells.{moment_cells, state_cells, HasMoments}
 use Rattle.wu_loader.specs.declared.rows.PlacedMoments.{PlacedMoments}
 use Rattle.wu_loader.specs.declared.rows.Placed.{Placed}
 use Rattle.wu_loader.specs.declared.rows.PlacedStates.{PlacedStates}
-use Rattle.wu_loader.specs.Rows.{archived_row, grant_row, placed_row, IsStoredImport, IsStoredPlaced}
+use Rattle.wu_loader.specs.Rows.{grant_row, placed_row, IsStoredImport, IsStoredPlaced}
 
 -- a row that is the row of one value alone is read as it
 pub reads_as : {T : Type 0} (cells : T → Row) (IsValue : T → Type 0) (row : Row) (x : T) → row ≡ cells x → IsValue x → ((a b : T) → IsValue a → IsValue b → cells a ≡ cells b → a ≡ b) → Restores cells IsValue row (Ok x)
@@ -23,34 +22,18 @@ reads_as cells IsValue row x same is one = record { value = (same, is); found = 
 
 -- a row is its columns
 pub columns_of : (row : Row) (n : ℕ) → length row ≡ n → row ≡ map (column row) (range_with_len 0 n)
-columns_of row n long = sym (as_columns row) ∙ ap (λ k. map (column row) (range_with_len 0 k)) long
+columns_of row n long = sym (whole_row n row long)
 
--- ---- archived workunits
-
-abbrev read_archived : Row → Archived
-read_archived r = record {
-  number = read_number (column r 1);
-  name = read_text (column r 2);
-  error_mask = flags_of (read_number (column r 3));
-  canonical = read_maybe (column r 4);
-  output = read_blob (column r 5);
-  done_at = read_number (column r 6);
-}
-
-archived_again : (place : ℕ) (a : Archived) → read_archived (archived_row place a) ≡ a
-archived_again place a = λ i. record a { error_mask = mask_again a.error_mask i; canonical = maybe_again a.canonical i }
-
-pub one_archived : (place : ℕ) (a b : Archived) → IsStoredArchived a → IsStoredArchived b → archived_row place a ≡ archived_row place b → a ≡ b
-one_archived place a b is_a is_b same = sym (archived_again place a) ∙ ap read_archived same ∙ archived_again place b
-
-pub archived_reads : (row : Row) (place first : ℕ) (a : Archived) → length row ≡ 7 → first ≡ place → Restores number (λ _. ⊤) (column row 0) (Ok first) → Restores number (λ _. ⊤) (column row 1) (Ok a.number) → Restores Text IsName (column row 2) (Ok a.name)
-    → Restores mask_cell (λ _. ⊤) (column row 3) (Ok a.error_mask) → Restores number_or_null IsPlace (column row 4) (Ok a.canonical) → Restores Blob IsOutput (column row 5) (Ok a.output)
-    → Restores number (λ seconds. seconds ≤ last_moment) (column row 6) (Ok a.done_at) → Restores (archived_row place) IsStoredArchived row (Ok a)
-archived_reads row place first a long at first_is number_is name_is mask_is canonical_is output_is done_is =
-    let seq : column row 0 ≡ number place = first_is.value.0 ∙ ap number at in
-    reads_as (archived_row place) IsStoredArchived row a
-    (columns_of row 7 long ∙ (λ i. seq i ∷ number_is.value.0 i ∷ name_is.value.0 i ∷ mask_is.value.0 i ∷ canonical_is.value.0 i ∷ output_is.value.0 i ∷ done_is.value.0 i ∷ []))
-    (record { name = name_is.value.1; canonical = canonical_is.value.1; output = output_is.value.1; done_at = done_is.value.1 }) (one_archived place)
+-- a value that is read behind its place
+pub behind_place : {T : Type 0} (cells : T → Row) (IsValue : T → Type 0) (row : Row) (count place first : ℕ) (r : Result T Fault) → length row ≡ suc count → first ≡ place → Restores number (λ _. ⊤) (column row 0) (Ok first) → Restores cells IsValue (columns row 1 count) r
+    → Restores (λ x. number place ∷ cells x) IsValue row r
+behind_place cells IsValue row count place first r long at first_is rest =
+    let row_is : row ≡ number place ∷ columns row 1 count = columns_of row (suc count) long ∙ (λ i. (first_is.value.0 ∙ ap number at) i ∷ columns row 1 count) in
+    record {
+      value = if_ok r _ _ (λ x is. (row_is ∙ ap (λ cs. number place ∷ cs) is.0, is.1)) rest.value;
+      found = λ x is same. rest.found x is (ap (drop 1) (sym row_is ∙ same));
+      refused = rest.refused;
+    }
 
 -- ---- imports
 
@@ -118,10 +101,6 @@ column_unread part row at {stored_as} {cell} {IsValue} {IsPart} are shown {f} un
   found = λ t is stored. not_ok f (part t) t (unread.found (part t) (are t is) (ap (λ r. column r at) stored ∙ shown t));
   refused = unread.refused;
 })
-
--- so is one with another number of columns
-pub miscounted : {T : Type 0} (row : Row) (count : ℕ) {stored_as : T → Row} {IsValue : T → Type 0} → ((t : T) → length (stored_as t) ≡ count) → length row ≢ count → Restores stored_as IsValue row (Err NotAProject)
-miscounted row count long other = record { value = tt; found = λ t is stored. absurd (other (ap (λ r. length r) stored ∙ long t)); refused = inr refl }
 
 -- ---- instances
 

@@ -11,7 +11,7 @@ use Rattle.std.proofs.lemmas.List.Sums.{length-filter, sum_by-cons}
 use Rattle.wu_core.specs.Hosts.{credit_of, grants_of, is_to}
 use Rattle.wu_core.specs.declared.workunit.Grant.{Grant}
 use Rattle.wu_store.proofs.GrantSums.{same_count, same_credit}
-use Rattle.wu_loader.specs.Granting.{by_host, referred, AreHosts, IsGranted, IsListed, IsWrongHost}
+use Rattle.wu_loader.specs.Granting.{by_host, referred, AreHosts, IsGranted, IsListed, IsUngranted, IsWrongHost}
 use Rattle.wu_loader.specs.declared.rows.Host.{Host}
 
 -- ---- references to grants
@@ -129,10 +129,10 @@ module _ (name : List ℕ) where
 -- ---- what a host was granted, by its run
 
 module _ (grants run : List (Bor Grant)) (host : Host) (is : referred run ≡ filter (is_to host.name) (referred grants)) where
-  run_credit : credit_of (referred grants) host.name ≡ sum_by (λ (g : Bor Grant). g.now.credit) run
+  pub run_credit : credit_of (referred grants) host.name ≡ sum_by (λ (g : Bor Grant). g.now.credit) run
   run_credit = ap (λ gs. sum_by (λ (g : Grant). g.credit) gs) (sym is) ∙ sum_referred run
 
-  run_count : grants_of (referred grants) host.name ≡ length run
+  pub run_count : grants_of (referred grants) host.name ≡ length run
   run_count = sym (length-filter (is_to host.name) (referred grants)) ∙ ap (λ gs. length gs) (sym is) ∙ length-map run (λ (g : Bor Grant). g.now)
 
   pub granted_by : host.total ≡ sum_by (λ (g : Bor Grant). g.now.credit) run → host.grants ≡ length run → 0 < host.grants → IsGranted (referred grants) host
@@ -146,35 +146,36 @@ module _ (grants run : List (Bor Grant)) (host : Host) (is : referred run ≡ fi
 
 -- ---- grants in another order
 
+granted_moved : (xs ys : List Grant) → IsPermutation xs ys → (host : Host) → IsGranted ys host → IsGranted xs host
+granted_moved xs ys moved host is = record { total = is.total ∙ same_credit xs ys moved host.name; count = is.count ∙ same_count xs ys moved host.name; some = is.some }
+
 module _ (xs ys : List Grant) (moved : IsPermutation xs ys) where
   -- the hosts of grants are those of the same grants in another order
   pub hosts_moved : (hosts : List Host) → AreHosts ys hosts → AreHosts xs hosts
   hosts_moved hosts are = record {
     rise = are.rise;
-    each = λ k d low. let is = are.each k d low in record { total = is.total ∙ same_credit xs ys moved (get_or hosts k d).name; count = is.count ∙ same_count xs ys moved (get_or hosts k d).name; some = is.some };
+    each = λ k d low. granted_moved xs ys moved (get_or hosts k d) (are.each k d low);
     listed = All-permutation (λ (g : Grant). IsListed hosts g.host) ys xs (IsPermutation-sym xs ys moved) are.listed;
   }
 
-  granted_moved : (host : Host) → IsGranted ys host → IsGranted xs host
-  granted_moved host is = record { total = is.total ∙ same_credit xs ys moved host.name; count = is.count ∙ same_count xs ys moved host.name; some = is.some }
+  -- so is the first that has other sums
+  pub ungranted_moved : (hosts : List Host) (place : ℕ) → IsUngranted xs hosts place → IsUngranted ys hosts place
+  ungranted_moved hosts place un = record {
+    there = un.there;
+    before = λ k d low. granted_moved ys xs (IsPermutation-sym xs ys moved) (get_or hosts k d) (un.before k d low);
+    other = λ d granted. un.other d (granted_moved xs ys moved (get_or hosts place d) granted);
+  }
 
-  granted_back : (host : Host) → IsGranted xs host → IsGranted ys host
-  granted_back host is = record { total = is.total ∙ sym (same_credit xs ys moved host.name); count = is.count ∙ sym (same_count xs ys moved host.name); some = is.some }
-
-  -- so is the host that is none of theirs
+  -- and the host that is none of theirs
   pub wrong_moved : (hosts : List Host) (place : ℕ) → IsWrongHost xs hosts place → IsWrongHost ys hosts place
   wrong_moved hosts place (inl low) = inl low
   wrong_moved hosts place (inr it) = inr (
     it.0,
     elim it.1 [
-      | inl un ↦ inl (record {
-        there = un.there;
-        before = λ k d low. granted_back (get_or hosts k d) (un.before k d low);
-        other = λ d granted. un.other d (granted_moved (get_or hosts place d) granted);
-      })
+      | inl un ↦ inl (ungranted_moved hosts place un)
       | inr lacks ↦ inr (record {
         behind = lacks.behind;
-        each = λ k d low. granted_back (get_or hosts k d) (lacks.each k d low);
+        each = λ k d low. granted_moved ys xs (IsPermutation-sym xs ys moved) (get_or hosts k d) (lacks.each k d low);
         unlisted = λ all. lacks.unlisted (All-permutation (λ (g : Grant). IsListed hosts g.host) ys xs (IsPermutation-sym xs ys moved) all);
       })
     ],

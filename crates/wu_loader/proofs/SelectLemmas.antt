@@ -1,7 +1,7 @@
 -- The questions about whole tables: each text, what it asks for, and what its answer shows of any rows.
-use Rattle.wu_schema.proofs.Words.{Answers, Database, Error, FailsToQuery, Fault, Ghosts, HasTables, Held, IfErr, IsFailure, ProjectTrees, Result, Vec, fault_of, false, length, state, HasTable, Int, IsPermutation, IsTable, List, None, Row, Shown, State, Table, Name, [], ap, archived_at, arith, codes, eval_all, everything, grant_at, host_at, import_at, lit, map, negsuc, project_at, refl, result_at, subst, sym, host_class_at, workunit_at, workunit_class_at, ℕ, ◌∙◌, ◌∷◌, ◌≡◌}
+use Rattle.wu_schema.proofs.Words.{Answers, Database, Error, FailsToQuery, Fault, Ghosts, HasTables, Held, IfErr, IsFailure, ProjectTrees, Result, Vec, fault_of, false, length, state, HasTable, Int, IsPermutation, IsTable, List, None, Row, Shown, State, Table, Name, [], ap, arith, eval_all, everything, lit, map, negsuc, refl, subst, sym, ℕ, ◌∙◌, ◌∷◌, ◌≡◌}
 use Rattle.wu_schema.proofs.AnswerLemmas.{answers_are, shown_answers}
-use Rattle.wu_schema.proofs.Parts.{IsIn, Part, name_of, parts_in, table_in}
+use Rattle.wu_schema.proofs.Parts.{Archive, Grants, HostClasses, Hosts, Imports, Instances, IsIn, Part, Project, WorkClasses, Workunits, name_of, parts_in, table_in}
 use Rattle.wu_schema.proofs.QueryLemmas.{alone, plain_query}
 use Rattle.wu_schema.proofs.ReadLemmas.{if_err, if_ok}
 use Rattle.wu_schema.proofs.RowLemmas.{no_test}
@@ -11,13 +11,15 @@ use Rattle.wu_schema.specs.Asking.{Asks, FailsAll, IsSelect, ServesUnlessFailed,
 use Rattle.wu_schema.specs.Faults.{IsStoreFault}
 use Rattle.wu_store.proofs.OrderAnswers.{sorted, sure_in_order}
 use Rattle.wu_loader.specs.Asked.{HasArranged, Looks}
-use Rattle.wu_loader.specs.declared.texts.TheConstants.{SELECT_ARCHIVE, SELECT_GRANTS, SELECT_HOSTS, SELECT_HOST_CLASSES, SELECT_IMPORTS, SELECT_PROJECT, SELECT_RESULTS, SELECT_WORKUNITS, SELECT_WORKUNIT_CLASSES}
+use Rattle.wu_loader.specs.Questions.{question}
+use Rattle.wu_loader.specs.declared.finding.LoadedTable.{LoadedTable}
+use Rattle.wu_loader.specs.declared.finding.LoadedTable.TheVariants as table
 
 -- ---- the law of a question about a whole table
 
 -- all rows, in any order or in that of a column
-abbrev whole_table : List ℕ → List ℕ → Asked
-whole_table text shown = record { text = text; parameters = []; shown = shown; tests = []; order = []; limit = None; upto = lit (Int (negsuc 0)) }
+abbrev whole_table : List ℕ → List ℕ → List ℕ → Asked
+whole_table text shown order = record { text = text; parameters = []; shown = shown; tests = []; order = order; limit = None; upto = lit (Int (negsuc 0)) }
 
 module _ (title : Name) (table : Table) (q : Asked) (fits : Fits title table q) (old new : State) (at : ℕ) (has : HasTable old.now.schema title at table) (shows : Row → Row) (same : (r : Row) → eval_all (terms_of title table q) ([] ∷ r ∷ []) ≡ shows r) (rows : List Row) (shown : Shown q.text [] old new rows) where
   answers : Answers old.now (alone (query_of title table q)) [] rows
@@ -65,65 +67,37 @@ module _ (version : ℕ) (p : Part) (in_p : IsIn p version) (q : Asked) (fits : 
 
 -- ---- each table
 
-abbrev pub project_asked : Asked
-project_asked = record (whole_table SELECT_PROJECT.now (0 ∷ 1 ∷ 2 ∷ [])) { order = 0 ∷ [] }
+abbrev pub table_part : LoadedTable → Part
+table_part table.Project = Project
+table_part table.Workunit = Workunits
+table_part table.Result = Instances
+table_part table.CreditGrant = Grants
+table_part table.Host = Hosts
+table_part table.Archived = Archive
+table_part table.Import = Imports
+table_part table.HostClass = HostClasses
+table_part table.WorkunitClass = WorkClasses
 
-pub project_fits : (tree : ℕ) → Fits (codes "project") (project_at tree) project_asked
+-- all columns, in order of the first if that is the rowid
+abbrev pub table_asked : LoadedTable → Asked
+table_asked table.Project = whole_table (question table.Project) (0 ∷ 1 ∷ 2 ∷ []) (0 ∷ [])
+table_asked table.Workunit = whole_table (question table.Workunit) (0 ∷ 1 ∷ 2 ∷ 3 ∷ 4 ∷ 5 ∷ 6 ∷ 7 ∷ 8 ∷ 9 ∷ 10 ∷ 11 ∷ 12 ∷ 13 ∷ 14 ∷ []) (0 ∷ [])
+table_asked table.Result = whole_table (question table.Result) (0 ∷ 1 ∷ 2 ∷ 3 ∷ 4 ∷ 5 ∷ 6 ∷ 7 ∷ 8 ∷ 9 ∷ 10 ∷ []) []
+table_asked table.CreditGrant = whole_table (question table.CreditGrant) (0 ∷ 1 ∷ 2 ∷ 3 ∷ 4 ∷ []) (0 ∷ [])
+table_asked table.Host = whole_table (question table.Host) (0 ∷ 1 ∷ 2 ∷ []) []
+table_asked table.Archived = whole_table (question table.Archived) (0 ∷ 1 ∷ 2 ∷ 3 ∷ 4 ∷ 5 ∷ 6 ∷ []) (0 ∷ [])
+table_asked table.Import = whole_table (question table.Import) (0 ∷ 1 ∷ 2 ∷ 3 ∷ 4 ∷ 5 ∷ []) []
+table_asked table.HostClass = whole_table (question table.HostClass) (0 ∷ 1 ∷ []) []
+table_asked table.WorkunitClass = whole_table (question table.WorkunitClass) (0 ∷ 1 ∷ []) (0 ∷ [])
+
+pub table_fits : (t : LoadedTable) (tree : ℕ) → Fits (name_of (table_part t)) (table_in (table_part t) tree) (table_asked t)
 unfolding everything
-project_fits tree = record { shown = refl; tests = refl; strict = refl; order = refl; height = (0, tt); few = omega arith; limit = λ schema. refl; read = refl; typed = refl }
-
-abbrev pub workunits_asked : Asked
-workunits_asked = record (whole_table SELECT_WORKUNITS.now (0 ∷ 1 ∷ 2 ∷ 3 ∷ 4 ∷ 5 ∷ 6 ∷ 7 ∷ 8 ∷ 9 ∷ 10 ∷ 11 ∷ 12 ∷ 13 ∷ 14 ∷ [])) { order = 0 ∷ [] }
-
-pub workunits_fits : (tree : ℕ) → Fits (codes "workunit") (workunit_at tree) workunits_asked
-unfolding everything
-workunits_fits tree = record { shown = refl; tests = refl; strict = refl; order = refl; height = (0, tt); few = omega arith; limit = λ schema. refl; read = refl; typed = refl }
-
-abbrev pub instances_asked : Asked
-instances_asked = record (whole_table SELECT_RESULTS.now (0 ∷ 1 ∷ 2 ∷ 3 ∷ 4 ∷ 5 ∷ 6 ∷ 7 ∷ 8 ∷ 9 ∷ 10 ∷ [])) { order = [] }
-
-pub instances_fits : (tree : ℕ) → Fits (codes "result") (result_at tree) instances_asked
-unfolding everything
-instances_fits tree = record { shown = refl; tests = refl; strict = refl; order = refl; height = (0, tt); few = omega arith; limit = λ schema. refl; read = refl; typed = refl }
-
-abbrev pub grants_asked : Asked
-grants_asked = record (whole_table SELECT_GRANTS.now (0 ∷ 1 ∷ 2 ∷ 3 ∷ 4 ∷ [])) { order = 0 ∷ [] }
-
-pub grants_fits : (tree : ℕ) → Fits (codes "credit_grant") (grant_at tree) grants_asked
-unfolding everything
-grants_fits tree = record { shown = refl; tests = refl; strict = refl; order = refl; height = (0, tt); few = omega arith; limit = λ schema. refl; read = refl; typed = refl }
-
-abbrev pub hosts_asked : Asked
-hosts_asked = record (whole_table SELECT_HOSTS.now (0 ∷ 1 ∷ 2 ∷ [])) { order = [] }
-
-pub hosts_fits : (tree : ℕ) → Fits (codes "host") (host_at tree) hosts_asked
-unfolding everything
-hosts_fits tree = record { shown = refl; tests = refl; strict = refl; order = refl; height = (0, tt); few = omega arith; limit = λ schema. refl; read = refl; typed = refl }
-
-abbrev pub archived_asked : Asked
-archived_asked = record (whole_table SELECT_ARCHIVE.now (0 ∷ 1 ∷ 2 ∷ 3 ∷ 4 ∷ 5 ∷ 6 ∷ [])) { order = 0 ∷ [] }
-
-pub archived_fits : (tree : ℕ) → Fits (codes "archived") (archived_at tree) archived_asked
-unfolding everything
-archived_fits tree = record { shown = refl; tests = refl; strict = refl; order = refl; height = (0, tt); few = omega arith; limit = λ schema. refl; read = refl; typed = refl }
-
-abbrev pub imports_asked : Asked
-imports_asked = record (whole_table SELECT_IMPORTS.now (0 ∷ 1 ∷ 2 ∷ 3 ∷ 4 ∷ 5 ∷ [])) { order = [] }
-
-pub imports_fits : (tree : ℕ) → Fits (codes "import") (import_at tree) imports_asked
-unfolding everything
-imports_fits tree = record { shown = refl; tests = refl; strict = refl; order = refl; height = (0, tt); few = omega arith; limit = λ schema. refl; read = refl; typed = refl }
-
-abbrev pub host_classes_asked : Asked
-host_classes_asked = record (whole_table SELECT_HOST_CLASSES.now (0 ∷ 1 ∷ [])) { order = [] }
-
-pub host_classes_fits : (tree : ℕ) → Fits (codes "host_class") (host_class_at tree) host_classes_asked
-unfolding everything
-host_classes_fits tree = record { shown = refl; tests = refl; strict = refl; order = refl; height = (0, tt); few = omega arith; limit = λ schema. refl; read = refl; typed = refl }
-
-abbrev pub work_classes_asked : Asked
-work_classes_asked = record (whole_table SELECT_WORKUNIT_CLASSES.now (0 ∷ 1 ∷ [])) { order = 0 ∷ [] }
-
-pub work_classes_fits : (tree : ℕ) → Fits (codes "workunit_class") (workunit_class_at tree) work_classes_asked
-unfolding everything
-work_classes_fits tree = record { shown = refl; tests = refl; strict = refl; order = refl; height = (0, tt); few = omega arith; limit = λ schema. refl; read = refl; typed = refl }
+table_fits table.Project tree = record { shown = refl; tests = refl; strict = refl; order = refl; height = (0, tt); few = omega arith; limit = λ schema. refl; read = refl; typed = refl }
+table_fits table.Workunit tree = record { shown = refl; tests = refl; strict = refl; order = refl; height = (0, tt); few = omega arith; limit = λ schema. refl; read = refl; typed = refl }
+table_fits table.Result tree = record { shown = refl; tests = refl; strict = refl; order = refl; height = (0, tt); few = omega arith; limit = λ schema. refl; read = refl; typed = refl }
+table_fits table.CreditGrant tree = record { shown = refl; tests = refl; strict = refl; order = refl; height = (0, tt); few = omega arith; limit = λ schema. refl; read = refl; typed = refl }
+table_fits table.Host tree = record { shown = refl; tests = refl; strict = refl; order = refl; height = (0, tt); few = omega arith; limit = λ schema. refl; read = refl; typed = refl }
+table_fits table.Archived tree = record { shown = refl; tests = refl; strict = refl; order = refl; height = (0, tt); few = omega arith; limit = λ schema. refl; read = refl; typed = refl }
+table_fits table.Import tree = record { shown = refl; tests = refl; strict = refl; order = refl; height = (0, tt); few = omega arith; limit = λ schema. refl; read = refl; typed = refl }
+table_fits table.HostClass tree = record { shown = refl; tests = refl; strict = refl; order = refl; height = (0, tt); few = omega arith; limit = λ schema. refl; read = refl; typed = refl }
+table_fits table.WorkunitClass tree = record { shown = refl; tests = refl; strict = refl; order = refl; height = (0, tt); few = omega arith; limit = λ schema. refl; read = refl; typed = refl }

@@ -4,6 +4,7 @@ use Rattle.std.specs.Prelude.{All, get_or}
 use Rattle.std.specs.Option.{option_map}
 use Rattle.std.specs.declared.cmp.Ordering.{Ordering}
 use Rattle.std.proofs.lemmas.List.{take-map, take_more}
+use Rattle.std.proofs.lemmas.Option.{slice_get-map}
 use Rattle.std.proofs.lemmas.List.Elements.{recursion_from_All}
 use Rattle.std.proofs.lemmas.List.Sorted.{All-permutation}
 use Rattle.wu_schema.specs.Restoring.{Restores}
@@ -29,13 +30,6 @@ module _ {T : Type 0} (cells : ℕ → T → Row) where
   rows_more xs x rows i row so_far long low at is =
       let e : 1 + length xs ≡ i + 1 = omega (arith, long) in
       later 1 xs x ∙ ap (λ k. rows_of cells xs ++ cells k x ∷ []) e ∙ (λ k. so_far k ++ sym (at ∙ is) k ∷ []) ∙ sym (take_more rows i row low)
-
-  counted : (n : ℕ) (xs : List T) → length (map at (enumerate_from n xs)) ≡ length xs
-  counted n [] = refl
-  counted n (x ∷ xs) = ap suc (counted (n + 1) xs)
-
-  pub rows_counted : (xs : List T) → length (rows_of cells xs) ≡ length xs
-  rows_counted = counted 1
 
 get_there : (rows : List Row) (i : ℕ) (row : Row) → i < length rows → get_or rows i row ≡ row → slice_get rows i ≡ Some row
 get_there [] i row low at = absurd (omega (arith, low))
@@ -103,21 +97,20 @@ sorted_rows cells IsValue order rows values sorted read each moved up = record {
 
 -- ---- places
 
-pub got_mapped : {X Y : Type 0} (f : X → Y) (xs : List X) (k : ℕ) → slice_get (map f xs) k ≡ option_map f (slice_get xs k)
-got_mapped f [] k = refl
-got_mapped f (x ∷ xs) zero = refl
-got_mapped f (x ∷ xs) (suc k) = got_mapped f xs k
-
 pub got_behind : {X : Type 0} (xs ys : List X) → slice_get (xs ++ ys) (length xs) ≡ slice_get ys 0
 got_behind [] ys = refl
 got_behind (x ∷ xs) ys = got_behind xs ys
+
+-- lists that differ at a place are not the same
+pub lists_differ : {X : Type 0} (wanted found : List X) (place : ℕ) → DiffersAt wanted found place → wanted ≢ found
+lists_differ wanted found place it same = it.other (ap (λ xs. slice_get xs (place - 1)) (sym same))
 
 -- what differs does so after a map that keeps what differs apart
 pub differs_mapped : {X Y : Type 0} (f : X → Y) → ((a b : X) → f a ≡ f b → a ≡ b) → (wanted found : List X) (place : ℕ) → DiffersAt wanted found place → DiffersAt (map f wanted) (map f found) place
 differs_mapped {X} f inj wanted found place it = record {
   counted = it.counted;
   before = take-map f (place - 1) found ∙ ap (map f) it.before ∙ sym (take-map f (place - 1) wanted);
-  other = λ same. it.other (apart (slice_get found (place - 1)) (slice_get wanted (place - 1)) (sym (got_mapped f found (place - 1)) ∙ same ∙ got_mapped f wanted (place - 1)));
+  other = λ same. it.other (apart (slice_get found (place - 1)) (slice_get wanted (place - 1)) (sym (slice_get-map f found (place - 1)) ∙ same ∙ slice_get-map f wanted (place - 1)));
 }
   where
     apart : (a b : Option X) → option_map f a ≡ option_map f b → a ≡ b
@@ -144,6 +137,10 @@ refused (Err reason) P Q f h = unless_then reason P Q f h
 pub handed : {T : Type 0} (r : Result T NoWorld) (reason : NoWorld) (P Q : WrongRow → Type 0) → ((wrong : WrongRow) → P wrong → Q wrong) → IsErrAnd r (λ other. other ≡ reason) → UnlessMemory reason P → IfErr r (λ other. UnlessMemory other Q)
 handed (Ok x) reason P Q f same h = tt
 handed (Err other) reason P Q f same h = subst (λ k. UnlessMemory k Q) (sym same) (unless_then reason P Q f h)
+
+-- want of memory is no refusal
+pub handed_memory : {T : Type 0} (r : Result T NoWorld) (Q : WrongRow → Type 0) → IsErrAnd r (λ other. other ≡ Memory) → IfErr r (λ other. UnlessMemory other Q)
+handed_memory r Q same = handed r Memory Q Q (λ wrong is. is) same tt
 
 -- rows are those of one list of values alone, where each is that of one value
 pub one_rows : {T : Type 0} (cells : ℕ → T → Row) → ((k : ℕ) (a b : T) → cells k a ≡ cells k b → a ≡ b) → (xs ys : List T) → rows_of cells xs ≡ rows_of cells ys → xs ≡ ys

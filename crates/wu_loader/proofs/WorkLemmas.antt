@@ -1,15 +1,14 @@
 -- The workunits that rows are those of.
-use Rattle.wu_schema.proofs.Words.{AllByRecursion, Equal, Has, Instance, IsAscending, IsPermutation, IsPermutation-map, IsPermutation-sym, IsPermutation-trans, IsSorted, Less, List, Ordering, Row, Workunit, [], all_from, ap, arith, column, enumerate_from, flat_map, get_or, has_mapped, inl, inr, instance_cells, instances_of, length, length-map, map, map-append, map-map, on_total, refl, subst, sym, workunit_row, ℕ, ◌++◌, ◌+◌, ◌<◌, ◌∙◌, ◌∷◌, ◌≡◌, ◌≤◌}
+use Rattle.wu_schema.proofs.Words.{AllByRecursion, Equal, Instance, IsAscending, IsPermutation, IsPermutation-map, IsPermutation-sym, IsPermutation-trans, IsSorted, Less, List, Ordering, Row, Workunit, [], all_from, ap, arith, column, enumerate_from, flat_map, has_mapped, instance_cells, instances_of, length, map, map-map, on_total, refl, subst, sym, workunit_row, ℕ, ◌+◌, ◌<◌, ◌∙◌, ◌∷◌, ◌≡◌, ◌≤◌}
 use Rattle.std.specs.Prelude.{All}
 use Rattle.std.specs.Cmp.{IsTotalOrder}
-use Rattle.std.specs.Ordering.{is_lt, nat_cmp, on, ordering_then, then_cmp}
+use Rattle.std.specs.Ordering.{nat_cmp, on, ordering_then, then_cmp}
 use Rattle.std.proofs.lemmas.Bool.Decides.{nat_tests}
 use Rattle.std.proofs.lemmas.Cmp.{nat_cmp_total, then_total}
-use Rattle.std.proofs.lemmas.List.{get_or-map}
 use Rattle.std.proofs.lemmas.List.Elements.{All-from_recursion, recursion_from_All}
+use Rattle.sqlite_trees.proofs.ListLemmas.{all-append, all-map, all_weaker, ascending-append, ascending-map, flat_map-map, flat_map_same_on, map-flat_map}
 use Rattle.wu_core.specs.Limits.{most_instances}
 use Rattle.wu_core.specs.Storable.{bare, IsStorable, IsStoredInstance, IsStoredWorkunit}
-use Rattle.wu_store.proofs.OneOrder.{one_order}
 use Rattle.wu_store.proofs.SameWorld.{read_number, same_workunit}
 use Rattle.wu_loader.specs.Dealing.{by_place, lone, placed_of, AreDealt}
 use Rattle.wu_loader.specs.Classing.{unclassed}
@@ -18,17 +17,15 @@ use Rattle.wu_loader.specs.Whole.{rows_of, IsNoRow}
 use Rattle.wu_loader.specs.Worlds.{AreRowsOfWorks, IsOrdered}
 use Rattle.wu_loader.specs.declared.rows.Placed.{Placed}
 use Rattle.wu_loader.proofs.RowLemmas.{one_placed}
+use Rattle.wu_loader.proofs.OrderLemmas.{sorted_are}
 use Rattle.wu_loader.proofs.WholeLemmas.{no_rows, none_permuted, rows_plain}
 
 -- ---- rows of instances and instances with their places
 
-placed_rows : (workunit n : ℕ) (is : List Instance) → map (λ (p : ℕ × Instance). instance_cells workunit p.0 p.1) (enumerate_from n is) ≡ map placed_row (map (λ (p : ℕ × Instance). record { workunit = workunit; n = p.0; instance = p.1 }) (enumerate_from n is))
-placed_rows workunit n [] = refl
-placed_rows workunit n (i ∷ is) = ap (λ rows. instance_cells workunit n i ∷ rows) (placed_rows workunit (n + 1) is)
-
 pub flat_rows : (ws : List Workunit) → flat_map instances_of ws ≡ map placed_row (flat_map placed_of ws)
-flat_rows [] = refl
-flat_rows (w ∷ ws) = (λ i. placed_rows w.number 0 w.instances i ++ flat_rows ws i) ∙ sym (map-append placed_row (placed_of w) (flat_map placed_of ws))
+flat_rows ws =
+    let placed : ℕ → ℕ × Instance → Placed = λ w p. record { workunit = w; n = p.0; instance = p.1 } in
+    sym (map-flat_map placed_row placed_of ws ∙ flat_map_same_on (λ w. map placed_row (placed_of w)) instances_of (λ w. map-map placed_row (placed w.number) (enumerate_from 0 w.instances)) ws)
 
 -- rows of instances by the same order
 abbrev by_row : Row → Row → Ordering
@@ -61,19 +58,11 @@ rise_within : (w n : ℕ) (is : List Instance) → IsAscending Rise (map (λ (p 
 rise_within w n [] = tt
 rise_within w n (i ∷ is) = (rise_above w n (n + 1) i is (omega arith), rise_within w (n + 1) is)
 
-all_append : {X : Type 0} (P : X → Type 0) (xs ys : List X) → AllByRecursion P xs → AllByRecursion P ys → AllByRecursion P (xs ++ ys)
-all_append P [] ys one two = two
-all_append P (x ∷ xs) ys one two = (one.0, all_append P xs ys one.1 two)
-
-rise_append : (xs ys : List Row) → IsAscending Rise xs → IsAscending Rise ys → ((x : Row) → Has xs x → AllByRecursion (Rise x) ys) → IsAscending Rise (xs ++ ys)
-rise_append [] ys one two cross = two
-rise_append (x ∷ xs) ys one two cross = (all_append (Rise x) xs ys one.0 (cross x (inl refl)), rise_append xs ys one.1 two (λ y has. cross y (inr has)))
-
 -- a row of a workunit is below those of later ones
 rise_over : (w n : ℕ) (i : Instance) (ws : List Workunit) → AllByRecursion (λ (u : Workunit). w < u.number) ws → AllByRecursion (Rise (instance_cells w n i)) (flat_map instances_of ws)
 rise_over w n i [] above = tt
 rise_over w n i (u ∷ us) above =
-    all_append (Rise (instance_cells w n i)) (instances_of u) (flat_map instances_of us)
+    all-append (Rise (instance_cells w n i)) (instances_of u) (flat_map instances_of us)
     (all_from (Rise (instance_cells w n i)) (instances_of u) (λ row has.
     let it = has_mapped (λ (p : ℕ × Instance). instance_cells u.number p.0 p.1) (enumerate_from 0 u.instances) row has in
     subst (Rise (instance_cells w n i)) (sym it.2) (rise_workunit w u.number n it.0.0 i it.0.1 above.0)))
@@ -81,29 +70,11 @@ rise_over w n i (u ∷ us) above =
 
 rise_all : (ws : List Workunit) → IsOrdered ws → IsAscending Rise (flat_map instances_of ws)
 rise_all [] up = tt
-rise_all (w ∷ ws) up = rise_append (instances_of w) (flat_map instances_of ws) (rise_within w.number 0 w.instances) (rise_all ws up.1) (λ row has.
+rise_all (w ∷ ws) up = ascending-append Rise (instances_of w) (flat_map instances_of ws) (rise_within w.number 0 w.instances) (rise_all ws up.1) (all_from _ (instances_of w) (λ row has.
     let it = has_mapped (λ (p : ℕ × Instance). instance_cells w.number p.0 p.1) (enumerate_from 0 w.instances) row has in
-    subst (λ r. AllByRecursion (Rise r) (flat_map instances_of ws)) (sym it.2) (rise_over w.number it.0.0 it.0.1 ws up.0))
+    subst (λ r. AllByRecursion (Rise r) (flat_map instances_of ws)) (sym it.2) (rise_over w.number it.0.0 it.0.1 ws up.0)))
 
--- what is sorted by place is so as rows
-rows_sorted : (ps : List Placed) → IsSorted by_place ps → IsSorted by_row (map placed_row ps)
-rows_sorted [] up = λ k d low high. absurd (omega (arith, high))
-rows_sorted (p ∷ ps) up = λ k d low high.
-    let long = length-map (p ∷ ps) placed_row in
-    let one : get_or (map placed_row (p ∷ ps)) k d ≡ placed_row (get_or (p ∷ ps) k p) = get_or-map placed_row (p ∷ ps) k p d (omega (arith, high, long)) in
-    let two : get_or (map placed_row (p ∷ ps)) (k + 1) d ≡ placed_row (get_or (p ∷ ps) (k + 1) p) = get_or-map placed_row (p ∷ ps) (k + 1) p d (omega (arith, high, long)) in
-    (λ i. is_lt (by_row (two i) (one i))) ∙ up k p low (omega (arith, high, long))
-
--- ---- injections
-
-pub one_list : {X : Type 0} (f : X → Row) → ((a b : X) → f a ≡ f b → a ≡ b) → (xs ys : List X) → map f xs ≡ map f ys → xs ≡ ys
-one_list f inj [] [] same = refl
-one_list f inj [] (y ∷ ys) same = absurd cc
-one_list f inj (x ∷ xs) [] same = absurd cc
-one_list f inj (x ∷ xs) (y ∷ ys) same =
-    let first : f x ≡ f y = cc in
-    let rest : map f xs ≡ map f ys = cc in
-    (λ i. inj x y first i ∷ one_list f inj xs ys rest i)
+-- ---- workunits by their rows
 
 same_bares : (vs ws : List Workunit) → map workunit_row vs ≡ map workunit_row ws → map bare vs ≡ map bare ws
 same_bares [] [] same = refl
@@ -123,16 +94,10 @@ lone_rows ws = map-map workunit_row lone ws
 -- ---- without their classes
 
 placed_unclassed : (ws : List Workunit) → flat_map placed_of (map unclassed ws) ≡ flat_map placed_of ws
-placed_unclassed [] = refl
-placed_unclassed (w ∷ ws) = ap (λ ps. placed_of w ++ ps) (placed_unclassed ws)
+placed_unclassed = flat_map-map placed_of unclassed
 
 pub ordered_unclassed : (ws : List Workunit) → IsOrdered ws → IsOrdered (map unclassed ws)
-ordered_unclassed [] up = tt
-ordered_unclassed (w ∷ ws) up = (above ws up.0, ordered_unclassed ws up.1)
-  where
-    above : (vs : List Workunit) → AllByRecursion (λ (u : Workunit). w.number < u.number) vs → AllByRecursion (λ (u : Workunit). w.number < u.number) (map unclassed vs)
-    above [] all = tt
-    above (v ∷ vs) all = (all.0, above vs all.1)
+ordered_unclassed = ascending-map (λ (one other : Workunit). one.number < other.number) unclassed
 
 few_unclassed : (ws : List Workunit) → AllByRecursion IsStorable ws → AllByRecursion (λ (w : Workunit). length w.instances ≤ most_instances) (map unclassed ws)
 few_unclassed [] all = tt
@@ -164,23 +129,20 @@ module _ (rows instances : List Row) (bares : List Workunit) (workunits_are : ro
     pub works_dealt : All IsStoredWorkunit bares → IsSorted by_place sorted → (ws : List Workunit) → IsOrdered ws → All IsStorable ws → AreRowsOfWorks rows instances ws → AreDealt bares sorted (map unclassed ws)
     works_dealt each up ws ordered storable are = record {
       bare = map-map lone unclassed ws ∙ same_bares ws bares (sym are.workunits_are ∙ bare_is) ∙ sym (lone_bares bares (recursion_from_All IsStoredWorkunit bares each));
-      all = placed_unclassed ws ∙ one_list placed_row one_placed (flat_map placed_of ws) sorted (sym (flat_rows ws) ∙ sym same);
+      all = placed_unclassed ws ∙ sym same;
       few = All-from_recursion (λ (w : Workunit). length w.instances ≤ most_instances) (map unclassed ws) (few_unclassed ws (recursion_from_All IsStorable ws storable));
     }
       where
-        same : map placed_row sorted ≡ flat_map instances_of ws
-        same = one_order by_row by_row_total (flat_map instances_of ws) (map placed_row sorted) (rise_all ws ordered) (rows_sorted sorted up)
-            (IsPermutation-trans _ _ _ (subst (IsPermutation (flat_map instances_of ws)) placed_is are.instances_are) (IsPermutation-map placed_row placed sorted moved))
+        same : sorted ≡ flat_map placed_of ws
+        same = sorted_are by_place placed_row by_row by_row_total (λ a b. refl) one_placed (flat_map placed_of ws) sorted (subst (IsAscending Rise) (flat_rows ws) (rise_all ws ordered)) up
+            (IsPermutation-trans _ _ _ (subst (λ rs. IsPermutation rs (map placed_row placed)) (flat_rows ws) (subst (IsPermutation (flat_map instances_of ws)) placed_is are.instances_are)) (IsPermutation-map placed_row placed sorted moved))
 
 -- ---- where a row is that of none
 
 pub never_works : (rows instances : List Row) (place : ℕ) → IsNoRow (λ _. workunit_row) IsStoredWorkunit rows place → (ws : List Workunit) → IsOrdered ws → All IsStorable ws → ¬ AreRowsOfWorks rows instances ws
 never_works rows instances place none ws ordered storable are =
-    no_rows (λ _. workunit_row) IsStoredWorkunit rows place none (map bare ws) (All-from_recursion IsStoredWorkunit (map bare ws) (bares ws (recursion_from_All IsStorable ws storable))) (are.workunits_are ∙ sym (bare_rows ws) ∙ sym (rows_plain workunit_row (map bare ws)))
-  where
-    bares : (ws : List Workunit) → AllByRecursion IsStorable ws → AllByRecursion IsStoredWorkunit (map bare ws)
-    bares [] each = tt
-    bares (w ∷ ws) each = (each.0.row, bares ws each.1)
+    let bares = all-map IsStoredWorkunit bare ws (all_weaker IsStorable (λ w. IsStoredWorkunit (bare w)) (λ w is. is.row) ws (recursion_from_All IsStorable ws storable)) in
+    no_rows (λ _. workunit_row) IsStoredWorkunit rows place none (map bare ws) (All-from_recursion IsStoredWorkunit (map bare ws) bares) (are.workunits_are ∙ sym (bare_rows ws) ∙ sym (rows_plain workunit_row (map bare ws)))
 
 pub never_placed : (rows instances : List Row) (place : ℕ) → IsNoRow (λ _. placed_row) IsStoredPlaced instances place → (ws : List Workunit) → IsOrdered ws → All IsStorable ws → ¬ AreRowsOfWorks rows instances ws
 never_placed rows instances place none ws ordered storable are =
@@ -192,4 +154,4 @@ never_placed rows instances place none ws ordered storable are =
 
     each_placed : (ws : List Workunit) → AllByRecursion IsStorable ws → AllByRecursion IsStoredPlaced (flat_map placed_of ws)
     each_placed [] each = tt
-    each_placed (w ∷ ws) each = all_append IsStoredPlaced (placed_of w) (flat_map placed_of ws) (within w.number 0 w.instances (recursion_from_All IsStoredInstance w.instances each.0.instances.each)) (each_placed ws each.1)
+    each_placed (w ∷ ws) each = all-append IsStoredPlaced (placed_of w) (flat_map placed_of ws) (within w.number 0 w.instances (recursion_from_All IsStoredInstance w.instances each.0.instances.each)) (each_placed ws each.1)

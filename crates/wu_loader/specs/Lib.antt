@@ -9,5 +9,6 @@ pub mod Dealing
 pub mod Granting
 pub mod Classing
 pub mod Wrongs
+pub mod Totals
 pub mod First
 pub mod Finding

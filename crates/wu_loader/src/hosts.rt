@@ -18,7 +18,7 @@ use std::alloc::{AllocError, Global};
 use wu_core::{Grant, Name};
 
 /// Sorts the hosts by their names.
-fn sort(hosts: &mut Vec<Host>) -> Result<(), AllocError>
+pub(crate) fn sort(hosts: &mut Vec<Host>) -> Result<(), AllocError>
     ensures same { IsPermutation hosts.old.items hosts.new.items }
     ensures sorted { OnOk result (IsSorted by_name hosts.new.items) }
 {
@@ -40,7 +40,10 @@ fn grant_references<'a>(alloc: Global, grants: &'a [Grant]) -> Result<Vec<&'a Gr
 }
 
 /// Returns the grants in order of their hosts' names.
-fn grants_by_host<'a>(alloc: Global, grants: &'a [Grant]) -> Result<Vec<&'a Grant>, AllocError>
+pub(crate) fn grants_by_host<'a>(
+    alloc: Global,
+    grants: &'a [Grant],
+) -> Result<Vec<&'a Grant>, AllocError>
     ensures same { IfOk result (λ sorted. IsPermutation grants.now (referred sorted.items)) }
     ensures sorted { IfOk result (λ sorted. IsSorted by_host sorted.items) }
 {
@@ -51,7 +54,7 @@ fn grants_by_host<'a>(alloc: Global, grants: &'a [Grant]) -> Result<Vec<&'a Gran
 
 /// Returns the grants to the host of this name. They are next to each other, since the grants are in order of their
 /// hosts' names.
-fn run_of<'a>(grants: &'a [&'a Grant], name: &Name) -> &'a [&'a Grant]
+pub(crate) fn run_of<'a>(grants: &'a [&'a Grant], name: &Name) -> &'a [&'a Grant]
     requires { IsSorted by_host grants.now }
     ensures { referred result.now ≡ filter (is_to name.now) (referred grants.now) }
 {
@@ -92,7 +95,7 @@ fn is_granted(host: &Host, grants: &[&Grant]) -> bool
 }
 
 /// Returns the first host whose name is not above that of the one before it, or `None` if there is none.
-fn first_out_of_order(hosts: &[Host]) -> Option<usize>
+pub(crate) fn first_out_of_order(hosts: &[Host]) -> Option<usize>
     ensures order { MatchOption result (Rise hosts.now) (λ _. ¬ Rise hosts.now) }
     ensures within { IfSome result (λ place. place < length hosts.now) }
     ensures told { IfSome result (IsNotAbove by_name hosts.now) }
@@ -106,7 +109,7 @@ fn first_out_of_order(hosts: &[Host]) -> Option<usize>
 }
 
 /// Returns the first host that has not what it was granted, or `None` if there is none.
-fn first_ungranted(hosts: &[Host], grants: &[&Grant]) -> Option<usize>
+pub(crate) fn first_ungranted(hosts: &[Host], grants: &[&Grant]) -> Option<usize>
     requires { IsSorted by_host grants.now }
     ensures granted { MatchOption result (All (IsGranted (referred grants.now)) hosts.now)
         (λ _. ¬ All (IsGranted (referred grants.now)) hosts.now) }

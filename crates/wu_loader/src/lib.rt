@@ -13,9 +13,11 @@ mod loading;
 pub mod rows;
 pub mod tables;
 mod texts;
+pub mod totals;
 mod whole;
 mod works;
 pub mod world;
 
 pub use loading::load_world;
 pub use texts::SELECT_PROJECT;
+pub use totals::other_sums;

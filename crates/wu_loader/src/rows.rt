@@ -19,8 +19,8 @@ use wu_core::{
 use wu_schema::number_at;
 use wu_schema::rows::{
     bytes_at, class_at, deadline_at, file_delete_at, host_at, instance_number_at, is_formed,
-    kind_at, mask_at, moment_at, name_at, outcome_at, output_at, place_at, server_state_at,
-    stamp_at, validate_state_at, verdicts_at, workunit_from,
+    kind_at, moment_at, name_at, outcome_at, output_at, placed_archived_from, server_state_at,
+    validate_state_at, verdicts_at, workunit_from,
 };
 
 /// What a row of a table represents.
@@ -105,20 +105,7 @@ impl FromRow for Archived {
         if number_at(row, 0)? != place {
             return Err(Fault::NotAProject);
         }
-        let number = number_at(row, 1)?;
-        let error_mask = mask_at(row, 3)?;
-        let canonical = place_at(row, 4)?;
-        let done_at = stamp_at(row, 6)?;
-        let output = output_at(row, 5)?;
-        let name = name_at(alloc, row, 2)?;
-        Ok(Archived {
-            number,
-            name,
-            error_mask,
-            canonical,
-            output,
-            done_at,
-        })
+        placed_archived_from(alloc, row)
     }
 }
 

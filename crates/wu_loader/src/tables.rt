@@ -61,7 +61,10 @@ fn question(table: LoadedTable) -> &'static str
 }
 
 /// Returns all rows of a table.
-fn rows_of<S: Alter>(conn: &mut Connection<S>, table: LoadedTable) -> Result<Vec<Row>, Fault>
+pub(crate) fn rows_of<S: Alter>(
+    conn: &mut Connection<S>,
+    table: LoadedTable,
+) -> Result<Vec<Row>, Fault>
     // Only reads; over tables of a version that has this table, these are all its rows, as the
     // question shows them.
     ensures { (version : ℕ) → IsTableIn version table → Looks version S.Store conn.old conn.new

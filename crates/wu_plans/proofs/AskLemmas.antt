@@ -1,15 +1,14 @@
 -- What is asked of the tables before a batch, as the machine asks it of a world.
-use Rattle.std.proofs.Common.{◌≡◌, ℕ, ◌+◌, ◌<◌, ◌≤◌, Bool, true, false, List, [], ◌∷◌, ◌++◌, length, map, Some, None, Result, Ok, Err, refl, sym, ap, subst, ◌∙◌, inl, inr, arith}
-use Rattle.std.proofs.lemmas.Bool.{cases_Bool}
+use Rattle.std.proofs.Common.{◌≡◌, ℕ, ◌+◌, ◌<◌, ◌≤◌, Bool, true, false, List, [], ◌∷◌, ◌++◌, length, map, Some, None, Result, Ok, Err, refl, sym, ap, ap₂, subst, ◌∙◌, inl, inr, arith}
+use Rattle.std.proofs.lemmas.Bool.{and_parts, cases_Bool, eqb-true, or_right}
 use Rattle.std.proofs.lemmas.List.Folds.{list_any-append}
 use Rattle.std.proofs.Common.{get_or, take, drop, length-take-le, take_all}
 use Rattle.std.proofs.lemmas.List.{length-map, get_or-map, take_more, take-append-drop, take-map}
 use Rattle.std.proofs.lemmas.List.Folds.{find-append}
 use Rattle.std.specs.List.{enumerate_from, list_any}
-use Rattle.std.specs.Prelude.{◌||◌, ◌&&◌, ◌==◌, All, IfErr, IfOk, IfSome, IsErrAnd, bytes_eq, find, MatchResult}
+use Rattle.std.specs.Prelude.{◌||◌, ◌==◌, All, IfErr, IfOk, IfSome, IsErrAnd, bytes_eq, find, MatchResult}
 use Rattle.std.proofs.lemmas.List.Elements.{All-head, All-tail}
 use Rattle.wu_core.specs.Codes.{import_kind_code}
-use Rattle.wu_core.specs.declared.import.ImportKind.TheVariants as kind
 use Rattle.wu_core.specs.declared.fault.Fault.{Fault}
 use Rattle.wu_core.specs.declared.import.ImportKind.{ImportKind}
 use Rattle.wu_core.specs.declared.workunit.Archived.{Archived}
@@ -17,6 +16,7 @@ use Rattle.wu_core.specs.declared.workunit.Workunit.{Workunit}
 use Rattle.wu_core.specs.World.{World, Import, is_import}
 use Rattle.wu_rules.proofs.Lists.{any-map, enumerate_from-append}
 use Rattle.wu_store.specs.Answers.{has_name, was_archived}
+use Rattle.wu_store.proofs.SameWorld.{kind_again, kind_of}
 use Rattle.wu_core.specs.Storable.{AreVerdicts}
 use Rattle.wu_feed.specs.declared.jobs.Job.{Job}
 use Rattle.wu_machine.specs.Batches.{first_taken, is_one_of, job_names, taken_names}
@@ -24,37 +24,15 @@ use Rattle.wu_machine.specs.Sound.{HasVerdicts}
 pub use Rattle.wu_store.proofs.AskLemmas.{asks_done, asks_fault, asks_handed, asks_made, asks_none, asks_stands, asks_then, handed_on}
 use Rattle.wu_store.specs.Loading.{IsStoreFault, LoadsImport}
 
-any_or : (a b c d : Bool) → a ≡ c → b ≡ d → (a || b) ≡ (c || d)
-any_or a b c d first second = rw (first, second) refl
-
 -- a name is taken by a workunit that is present or by an archived one
 pub taken_is : (world : World) (name : List ℕ) → is_one_of (taken_names world) name ≡ (has_name name world || was_archived name world)
 taken_is world name =
     list_any-append (λ one. bytes_eq one name) (map (λ (w : Workunit). w.name) world.workunits) (map (λ (a : Archived). a.name) world.archived)
-    ∙ any_or _ _ _ _ (any-map (λ one. bytes_eq one name) (λ (w : Workunit). bytes_eq w.name name) (λ (w : Workunit). w.name) (λ w. refl) world.workunits)
+    ∙ ap₂ ◌||◌ (any-map (λ one. bytes_eq one name) (λ (w : Workunit). bytes_eq w.name name) (λ (w : Workunit). w.name) (λ w. refl) world.workunits)
     (any-map (λ one. bytes_eq one name) (λ (a : Archived). bytes_eq a.name name) (λ (a : Archived). a.name) (λ a. refl) world.archived)
 
-and_first : (a b : Bool) → (a && b) ≡ true → a ≡ true
-and_first true b is = refl
-and_first false b is = absurd cc
-
 pub kind_is : (one other : ImportKind) → (import_kind_code one == import_kind_code other) ≡ true → one ≡ other
-kind_is kind.Batch kind.Batch is = refl
-kind_is kind.Batch kind.Sent is = absurd cc
-kind_is kind.Batch kind.Reported is = absurd cc
-kind_is kind.Sent kind.Batch is = absurd cc
-kind_is kind.Sent kind.Sent is = refl
-kind_is kind.Sent kind.Reported is = absurd cc
-kind_is kind.Reported kind.Batch is = absurd cc
-kind_is kind.Reported kind.Sent is = absurd cc
-kind_is kind.Reported kind.Reported is = refl
-kind_is kind.Batch kind.Classes is = absurd cc
-kind_is kind.Sent kind.Classes is = absurd cc
-kind_is kind.Reported kind.Classes is = absurd cc
-kind_is kind.Classes kind.Batch is = absurd cc
-kind_is kind.Classes kind.Sent is = absurd cc
-kind_is kind.Classes kind.Reported is = absurd cc
-kind_is kind.Classes kind.Classes is = refl
+kind_is one other is = sym (kind_again one) ∙ ap kind_of (eqb-true _ _ is) ∙ kind_again other
 
 -- the verdicts of an import that is found are in range
 pub found_in_range : (k : ImportKind) (name : List ℕ) (world : World) → HasVerdicts world → LoadsImport k name world
@@ -63,7 +41,7 @@ found_in_range k name world verdicts = among world.imports verdicts
     among : (imports : List Import) → All (λ i. AreVerdicts i.kind i.verdicts) imports → IfSome (find (is_import k name) imports) (λ import. AreVerdicts k import.verdicts)
     among [] all = tt
     among (import ∷ more) all = elim (cases_Bool (is_import k name import)) [
-      | inl is ↦ rw is (subst (λ of. AreVerdicts of import.verdicts) (kind_is import.kind k (and_first _ (bytes_eq import.name name) is)) (All-head (λ (i : Import). AreVerdicts i.kind i.verdicts) import more all))
+      | inl is ↦ rw is (subst (λ of. AreVerdicts of import.verdicts) (kind_is import.kind k (and_parts _ (bytes_eq import.name name) is).0) (All-head (λ (i : Import). AreVerdicts i.kind i.verdicts) import more all))
       | inr not ↦ rw not (among more (All-tail (λ (i : Import). AreVerdicts i.kind i.verdicts) import more all))
     ]
 
@@ -74,17 +52,13 @@ used_is world earlier name =
     list_any-append (λ one. bytes_eq one name) (taken_names world) (job_names earlier)
     ∙ ap (λ b. is_one_of (taken_names world) name || b) (any-map (λ one. bytes_eq one name) (λ (job : Job). bytes_eq job.name name) (λ (job : Job). job.name) (λ job. refl) earlier)
 
-or_true : (b : Bool) → (b || true) ≡ true
-or_true true = refl
-or_true false = refl
-
 or_false : (b : Bool) → (b || false) ≡ b
 or_false true = refl
 or_false false = refl
 
 -- one of these jobs has the name
 pub used_by_job : (world : World) (earlier : List Job) (name : List ℕ) → list_any (λ (job : Job). bytes_eq job.name name) earlier ≡ true → true ≡ is_one_of (taken_names world ++ job_names earlier) name
-used_by_job world earlier name has = sym (used_is world earlier name ∙ ap (λ b. is_one_of (taken_names world) name || b) has ∙ or_true (is_one_of (taken_names world) name))
+used_by_job world earlier name has = sym (used_is world earlier name ∙ or_right _ _ has)
 
 -- no job has it
 pub used_by_world : (world : World) (earlier : List Job) (name : List ℕ) (r : Result Bool Fault) → list_any (λ (job : Job). bytes_eq job.name name) earlier ≡ false

@@ -1,33 +1,33 @@
 -- What a batch's plan makes of a world is what the machine makes of it.
-use Rattle.std.proofs.Common.{append_assoc, ◌≡◌, ◌⊎◌, ℕ, ◌+◌, ◌<◌, ◌≤◌, ◌==◌, true, false, List, [], ◌∷◌, ◌++◌, length, map, Some, None, Result, Ok, Err, IfOk, IfErr, refl, sym, ap, subst, ◌∙◌, inl, inr, arith, nat_lt}
+use Rattle.std.proofs.Common.{append_assoc, ◌≡◌, ◌⊎◌, ℕ, ◌+◌, ◌≤◌, ◌==◌, false, List, [], ◌∷◌, ◌++◌, length, map, Some, None, Result, Ok, Err, IfOk, IfErr, refl, sym, ap, subst, ◌∙◌, inl, inr, arith, nat_lt}
 use Rattle.std.proofs.lemmas.Bool.Decides.{nat_tests}
 use Rattle.std.proofs.lemmas.List.{append-nil}
 use Rattle.std.specs.List.{enumerate_from}
 use Rattle.wu_core.specs.declared.fault.Fault.{Fault}
-use Rattle.wu_core.specs.declared.fault.Fault.TheVariants.{Memory, TooMany, WorkunitUsed}
+use Rattle.wu_core.specs.declared.fault.Fault.TheVariants.{Memory, WorkunitUsed}
 use Rattle.wu_core.specs.declared.workunit.Workunit.{Workunit}
 use Rattle.wu_core.specs.Limits.{most_workunits}
 use Rattle.wu_core.specs.Parameters.{Parameters}
-use Rattle.wu_core.specs.World.{MadeNone, MayBeKept, World, Import}
+use Rattle.wu_core.specs.World.{MadeNone, MayBeKept, World}
 use Rattle.wu_core.specs.Storable.{IsAbove}
 use Rattle.wu_feed.specs.declared.jobs.Job.{Job}
 use Rattle.wu_feed.specs.Jobs.{jobs_of_file}
 use Rattle.wu_feed.specs.Templates.{template_of}
 use Rattle.wu_machine.specs.Batches.{all_applied, first_number, first_taken, new_workunit, with_jobs}
 use Rattle.wu_store.specs.Changing.{AreRight, import_of_change, made, made_all}
-use Rattle.wu_machine.specs.Imports.{batch_given, Done, Given, first_answer, import_of, kept_import}
+use Rattle.wu_machine.specs.Imports.{batch_given, Done, Given, import_of, kept_import, keeping}
 use Rattle.wu_machine.specs.Machine.{done, IsUpToDate}
 use Rattle.wu_plans.specs.Planning.{additions, first_of, IsNewBatch, IsPlan, Plans, TellsTaken}
 use Rattle.wu_machine.specs.Commands.{reply_of_answer}
 use Rattle.wu_machine.specs.Sound.{IsProject}
 use Rattle.wu_store.specs.Loading.{IsStoreFault}
 use Rattle.wu_store.specs.StandsFor.{KnowsClasses}
-use Rattle.wu_machine.specs.Requests.{AskBatch, Reply}
+use Rattle.wu_machine.specs.Requests.{AskBatch}
 use Rattle.wu_plans.specs.declared.plan.Plan.{Plan}
 use Rattle.wu_store.specs.declared.changes.Change.{Change}
 use Rattle.wu_store.specs.declared.changes.Change.TheVariants.{Next, Keep}
 use Rattle.wu_store.specs.declared.changes.Import.{Import as Kept}
-use Rattle.wu_plans.proofs.ImportPlans.{never_before}
+use Rattle.wu_plans.proofs.ImportPlans.{kept_done, never_before}
 use Rattle.wu_plans.proofs.PlanLemmas.{added, classed}
 use Rattle.wu_machine.proofs.BatchKeeps.{above_more, asked_of, news, with_kept}
 
@@ -93,31 +93,14 @@ module _ (world : World) (is : IsUpToDate world) (project : IsProject world) (na
       import_is : kept_import given (first_number world jobs) (all_applied jobs) ≡ import_of_change new.kept
       import_is = ap (λ first. kept_import given first (all_applied jobs)) (first_is world jobs) ∙ sym new.keeps
 
-      same : ◌≡◌ {A = Done}
-          (first_answer (kept_import given (first_number world jobs) (all_applied jobs)), with_kept (kept_import given (first_number world jobs) (all_applied jobs)) (with_jobs world params jobs))
-          (reply_of_answer plan.answer, made_all plan.changes.items world)
-      same = ap {B = Done} (λ (i : Import). (first_answer i, with_kept i (with_jobs world params jobs))) import_is
-          ∙ ap {B = Done} (λ (a : Reply). (a, with_kept (import_of_change new.kept) (with_jobs world params jobs))) (sym new.answer)
-          ∙ ap {B = Done} (λ (w : World). (reply_of_answer plan.answer, w)) (sym (ap (λ changes. made_all changes world) new.changes ∙ made_new new.kept))
+      same : ◌≡◌ {A = Done} (keeping given (first_number world jobs) (all_applied jobs) (with_jobs world params jobs)) (reply_of_answer plan.answer, made_all plan.changes.items world)
+      same = kept_done given (first_number world jobs) (all_applied jobs) (with_jobs world params jobs) world plan new.kept (sym import_is) new.answer (ap (λ changes. made_all changes world) new.changes ∙ made_new new.kept)
 
 -- a batch that is refused
 module _ (world : World) (is_now : IsUpToDate world) (project : IsProject world) (name template file : List ℕ) where
-  pub bad_template : (fault : Fault) → import_of world (batch_given name template file) ≡ None → template_of template ≡ Err fault → done world (AskBatch name template file) ≡ Err fault
-  bad_template fault fresh is = asked_of world is_now name template file ∙ rw (fresh, is) refl
-
-  pub bad_file : (params : Parameters) (fault : Fault) → import_of world (batch_given name template file) ≡ None → template_of template ≡ Ok params → jobs_of_file file ≡ Err fault
-      → done world (AskBatch name template file) ≡ Err fault
-  bad_file params fault fresh template_is is = asked_of world is_now name template file ∙ rw (fresh, template_is, is) refl
-
   pub name_taken : (params : Parameters) (jobs : List Job) (place : ℕ × List ℕ) → import_of world (batch_given name template file) ≡ None → template_of template ≡ Ok params
       → jobs_of_file file ≡ Ok jobs → first_taken world jobs ≡ Some place → done world (AskBatch name template file) ≡ Err (WorkunitUsed (place.0 + 2))
   name_taken params jobs place fresh template_is file_is taken = asked_of world is_now name template file ∙ rw (fresh, template_is, file_is, taken) refl
-
-  pub too_many : (params : Parameters) (jobs : List Job) → import_of world (batch_given name template file) ≡ None → template_of template ≡ Ok params
-      → jobs_of_file file ≡ Ok jobs → first_taken world jobs ≡ None → most_workunits + 1 < world.next_number + length jobs → done world (AskBatch name template file) ≡ Err TooMany
-  too_many params jobs fresh template_is file_is free many =
-      let is : nat_lt (most_workunits + 1) (world.next_number + length jobs) ≡ true = grind (arith, nat_tests) in
-      asked_of world is_now name template file ∙ rw (fresh, template_is, file_is, free, is) refl
 
   pub names_refused : (params : Parameters) (jobs : List Job) (fault : Fault) → import_of world (batch_given name template file) ≡ None → template_of template ≡ Ok params
       → jobs_of_file file ≡ Ok jobs → TellsTaken world jobs fault ⊎ IsStoreFault fault → (done world (AskBatch name template file) ≡ Err fault) ⊎ IsStoreFault fault

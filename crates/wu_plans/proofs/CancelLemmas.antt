@@ -9,7 +9,6 @@ use Rattle.wu_core.specs.World.{World}
 use Rattle.wu_rules.specs.Cancelling.{cancelled}
 use Rattle.wu_schema.specs.Refines.{Refines}
 use Rattle.wu_store.specs.Changing.{AreRight, made_all}
-use Rattle.wu_store.specs.StandsFor.{KnowsClasses}
 use Rattle.wu_store.specs.declared.changes.Change.TheVariants.{Replace}
 use Rattle.wu_store.proofs.WorldOnce.{once_named, once_number}
 use Rattle.wu_plans.specs.declared.plan.Plan.{Plan}
@@ -23,7 +22,7 @@ use Rattle.wu_plans.specs.Touched.{AreImages, touched_named, untouched, with_tou
 use Rattle.wu_machine.specs.Worlds.{workunit_named, with_named}
 use Rattle.wu_machine.proofs.Versions.{done_up_to_date}
 use Rattle.wu_plans.proofs.PlanLemmas.{classed}
-use Rattle.wu_plans.proofs.TouchedLemmas.{images_by_row, images_empty, images_loaded, left_by_row, loaded, loaded_found, name_found, replaced_all, touched_empty}
+use Rattle.wu_plans.proofs.TouchedLemmas.{ChangesTo, images_by_row, images_empty, images_loaded, left_by_row, loaded, loaded_found, name_found, replaced_all, touched_empty}
 
 module _ (db : Database) (world : World) (stands : Refines db world) (name : List ℕ) (w : Workunit) (present : workunit_named world name ≡ Some w) where
   images : AreImages world (untouched w ∷ [])
@@ -46,8 +45,7 @@ module _ (db : Database) (world : World) (stands : Refines db world) (name : Lis
       | inr off ↦ rw off refl
     ]
 
-    pub replaced_one : (change : Workunit → Workunit) → change w ≡ image
-        → (made_all (Replace w image ∷ []) world ≡ with_named world name change) × (KnowsClasses world → AreRight (Replace w image ∷ []) world)
+    pub replaced_one : (change : Workunit → Workunit) → change w ≡ image → ChangesTo (Replace w image ∷ []) world (with_named world name change)
     replaced_one change makes =
         let all = images_by_row world (untouched w ∷ []) (changed ∷ []) name (untouched w) image there images named numbered found_by in
         let now = left_by_row world (untouched w ∷ []) (changed ∷ []) name (untouched w) image there images named numbered found_by change makes in

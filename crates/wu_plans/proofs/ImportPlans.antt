@@ -1,9 +1,9 @@
 -- What the plan of an import makes of a world is what the machine makes of it: one that came before, and a new file of
 -- rows or of classes.
-use Rattle.std.proofs.Common.{◌≡◌, ℕ, Bool, true, false, List, [], ◌∷◌, map, Some, None, Result, Ok, Err, IfOk, IfErr, refl, sym, ap, subst, ◌∙◌, inl, inr}
-use Rattle.std.proofs.lemmas.Bool.{cases_Bool}
+use Rattle.std.proofs.Common.{◌≡◌, ℕ, true, false, List, [], ◌∷◌, map, Some, None, Result, Ok, Err, IfOk, IfErr, refl, sym, ap, subst, ◌∙◌, inl, inr}
+use Rattle.std.proofs.lemmas.Bool.{and_parts}
 use Rattle.std.proofs.lemmas.Slice.Eq.{bytes_eq-Decides}
-use Rattle.std.specs.Prelude.{find, ◌&&◌, if◌then◌else◌, IsSome, MatchResult, Option}
+use Rattle.std.specs.Prelude.{IsSome, MatchResult, Option}
 use Rattle.sqlite.specs.Effect.{Database}
 use Rattle.wu_core.specs.declared.fault.Fault.{Fault}
 use Rattle.wu_core.specs.declared.fault.Fault.TheVariants.{Memory, NameUsed}
@@ -17,6 +17,7 @@ use Rattle.wu_store.specs.Loading.{IsEarlier, IsStoreFault}
 use Rattle.wu_store.specs.StandsFor.{KnowsClasses}
 use Rattle.wu_schema.specs.declared.rows.StoredImport.{StoredImport}
 use Rattle.wu_store.specs.declared.changes.Change.TheVariants.{Keep}
+use Rattle.wu_store.specs.declared.changes.Import.{Import as Kept}
 use Rattle.wu_store.proofs.WorldOnce.{once_named, once_number}
 use Rattle.wu_plans.specs.declared.files.AppliedRows.{AppliedRows}
 use Rattle.wu_plans.specs.declared.plan.Plan.{Plan}
@@ -31,19 +32,7 @@ use Rattle.wu_machine.specs.Requests.{AskClasses, AskReported, AskSent, Imported
 use Rattle.wu_plans.specs.Touched.{IsLeft}
 use Rattle.wu_machine.proofs.Versions.{done_up_to_date}
 use Rattle.wu_plans.proofs.AskLemmas.{kind_is}
-use Rattle.wu_plans.proofs.TouchedLemmas.{made_append, right_append, rows_then}
-
--- what is found passes the test
-find_passes : {X : Type 0} (p : X → Bool) (xs : List X) (x : X) → find p xs ≡ Some x → p x ≡ true
-find_passes p [] x found = absurd cc
-find_passes p (y ∷ ys) x found = elim (cases_Bool (p y)) [
-  | inl is ↦ let same : Some y ≡ Some x = subst (λ b. (if b then Some y else find p ys) ≡ Some x) is found in let it : y ≡ x = cc in subst (λ z. p z ≡ true) it is
-  | inr not ↦ find_passes p ys x (subst (λ b. (if b then Some y else find p ys) ≡ Some x) not found)
-]
-
-both_true : (a b : Bool) → (a && b) ≡ true → (a ≡ true) × (b ≡ true)
-both_true true b is = (refl, is)
-both_true false b is = absurd cc
+use Rattle.wu_plans.proofs.TouchedLemmas.{find_passes, made_append, right_append, rows_then}
 
 -- ---- the rows of a file
 
@@ -100,6 +89,11 @@ none_found None fresh came = absurd (let no = came in cc)
 pub never_before : (world : World) (given : Given) → import_of world given ≡ None → ¬ CameBefore world given
 never_before world given fresh came = none_found (import_of world given) fresh came
 
+-- what the machine answers and makes is the plan's, where that keeps the same import
+pub kept_done : (given : Given) (first : ℕ) (verdicts : List ℕ) (after world : World) (plan : Plan) (kept : Kept) → KeepsImport given first verdicts kept → reply_of_answer plan.answer ≡ first_answer (import_of_change kept)
+    → made_all plan.changes.items world ≡ with_import (import_of_change kept) after → ◌≡◌ {A = Done} (keeping given first verdicts after) (reply_of_answer plan.answer, made_all plan.changes.items world)
+kept_done given first verdicts after world plan kept keeps reply made = λ i. ((ap (λ (k : Import). first_answer k) (sym keeps) ∙ sym reply) i, (ap (λ k. with_import k after) (sym keeps) ∙ sym made) i)
+
 module _ (world : World) (request : Request) (given : Given) (asked : done world request ≡ imported world given) where
   came_before : (import : Import) → import_of world given ≡ Some import → has_content given import ≡ true → done world request ≡ Ok (first_answer import, world)
   came_before import found same = asked ∙ rw (found, same) refl
@@ -107,50 +101,33 @@ module _ (world : World) (request : Request) (given : Given) (asked : done world
   other_content : (import : Import) → import_of world given ≡ Some import → has_content given import ≡ false → done world request ≡ Err NameUsed
   other_content import found other = asked ∙ rw (found, other) refl
 
-  -- a new one that is refused
-  pub newly_refused : (fault : Fault) → import_of world given ≡ None → newly_imported world given given.kind ≡ Err fault → done world request ≡ Err fault
-  newly_refused fault fresh is = asked ∙ rw fresh is
-
   pub rows_planned : {Row : Type 0} → given.template ≡ [] → (rule : Rule Row) (rows : List Row) → import_of world given ≡ None → newly_imported world given given.kind ≡ rows_read rule given world (Ok rows)
       → (MakesNothing world request → CameBefore world given) → (r : Result Plan Fault) → MatchResult r (IsFilePlan rule given rows world) IsStoreFault → IsPlan world request r
   rows_planned empty rule rows fresh read before (Ok plan) it = record {
-    done = asked ∙ rw fresh (read ∙ ap (λ (d : Done). Ok d) same);
+    done = asked ∙ rw fresh (read ∙ ap (λ (d : Done). Ok d) (kept_done given 0 (row_verdicts rule world rows) (after_rows rule world rows) world plan it.kept it.keeps it.reply it.made));
     right = it.right empty;
     idle = λ none. absurd (never_before world given fresh (before none));
   }
-    where
-      import_is : kept_import given 0 (row_verdicts rule world rows) ≡ import_of_change it.kept
-      import_is = sym it.keeps
-
-      same : ◌≡◌ {A = Done} (keeping given 0 (row_verdicts rule world rows) (after_rows rule world rows)) (reply_of_answer plan.answer, made_all plan.changes.items world)
-      same = ap {B = Done} (λ (i : Import). (first_answer i, with_import i (after_rows rule world rows))) import_is
-          ∙ ap {B = Done} (λ (a : Reply). (a, with_import (import_of_change it.kept) (after_rows rule world rows))) (sym it.reply)
-          ∙ ap {B = Done} (λ (w : World). (reply_of_answer plan.answer, w)) (sym it.made)
   rows_planned empty rule rows fresh read before (Err fault) it = inr it
 
   -- a new file of classes
   pub classes_planned : given.template ≡ [] → (rows : List HostClass) → KnowsClasses world → import_of world given ≡ None → newly_imported world given given.kind ≡ classes_read given world (Ok rows)
       → (MakesNothing world request → CameBefore world given) → (r : Result Plan Fault) → IfOk r (IsNewClasses given rows) → IfErr r (λ fault. fault ≡ Memory) → IsPlan world request r
   classes_planned empty rows known fresh read before (Ok plan) it err = record {
-    done = asked ∙ rw fresh (read ∙ ap (λ (d : Done). Ok d) same);
+    done = asked ∙ rw fresh (read ∙ ap (λ (d : Done). Ok d) (kept_done given 0 (all_applied rows) (after_classes world rows) world plan it.kept it.keeps it.reply made_is));
     right = subst (λ changes. AreRight changes world) (sym it.changes) (right_append (map sets_class rows) (Keep it.kept ∷ []) world (classes_right rows world known) (may_be_kept given (all_applied rows) (import_of_change it.kept) empty it.keeps, tt));
     idle = λ none. absurd (never_before world given fresh (before none));
   }
     where
       made_is : made_all plan.changes.items world ≡ with_import (import_of_change it.kept) (after_classes world rows)
       made_is = ap (λ changes. made_all changes world) it.changes ∙ made_append (map sets_class rows) (Keep it.kept ∷ []) world ∙ ap (with_import (import_of_change it.kept)) (classes_made rows world)
-
-      same : ◌≡◌ {A = Done} (keeping given 0 (all_applied rows) (after_classes world rows)) (reply_of_answer plan.answer, made_all plan.changes.items world)
-      same = ap {B = Done} (λ (i : Import). (first_answer i, with_import i (after_classes world rows))) (sym it.keeps)
-          ∙ ap {B = Done} (λ (a : Reply). (a, with_import (import_of_change it.kept) (after_classes world rows))) (sym it.reply)
-          ∙ ap {B = Done} (λ (w : World). (reply_of_answer plan.answer, w)) (sym made_is)
   classes_planned empty rows known fresh read before (Err fault) it err = inr (inl err)
 
   kind_of : (kept : Import) → is_import given.kind given.name kept ≡ true → kept.kind ≡ given.kind
-  kind_of kept is = kind_is kept.kind given.kind (both_true _ _ is).0
+  kind_of kept is = kind_is kept.kind given.kind (and_parts _ _ is).0
 
   name_of : (kept : Import) → is_import given.kind given.name kept ≡ true → kept.name ≡ given.name
-  name_of kept is = (bytes_eq-Decides kept.name given.name).0 (both_true _ _ is).1
+  name_of kept is = (bytes_eq-Decides kept.name given.name).0 (and_parts _ _ is).1
 
   same_stored : (earlier : StoredImport) (kept : Import) → earlier.template ≡ kept.template → earlier.content ≡ kept.content → has_content given kept ≡ has_same_content given earlier
   same_stored earlier kept template_is content_is = rw (template_is, content_is) refl

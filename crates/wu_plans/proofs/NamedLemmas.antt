@@ -18,25 +18,17 @@ use Rattle.wu_core.specs.declared.workunit.Workunit.{Workunit}
 use Rattle.wu_machine.specs.FileRows.{Rule, left_by}
 use Rattle.wu_plans.specs.declared.touched.Touch.{Touch}
 use Rattle.wu_plans.specs.Touched.{AreDistinct, HasAlso, IsUnderItsName, LeavesBy, touched_named, untouched}
+use Rattle.wu_plans.proofs.TouchedLemmas.{name_back}
 
 abbrev Entry : Type 0
 Entry = String Global × Touch
-
-bytes_turn : (a b : List ℕ) → bytes_eq a b ≡ bytes_eq b a
-bytes_turn a b = elim (cases_Bool (bytes_eq a b)) [
-  | inl is ↦ let same : a ≡ b = (bytes_eq-Decides a b).0 is in subst (λ (c : List ℕ). bytes_eq a c ≡ bytes_eq c a) same refl
-  | inr not ↦ elim (cases_Bool (bytes_eq b a)) [
-    | inl is ↦ let same : b ≡ a = (bytes_eq-Decides b a).0 is in subst (λ (c : List ℕ). bytes_eq c b ≡ bytes_eq b c) same refl
-    | inr other ↦ not ∙ sym other
-  ]
-]
 
 -- what is found by its name is what is found under it
 pub named_is : (es : List Entry) → AllByRecursion IsUnderItsName es → (name : List ℕ) → touched_named (values_of es) name ≡ lookup (is_at (λ k. slice_cmp nat_cmp name (string_bytes k))) es
 named_is [] under name = refl
 named_is (e ∷ es) under name =
     let same : bytes_eq e.1.now.name name ≡ is_eq (slice_cmp nat_cmp name (string_bytes e.0)) =
-    bytes_turn e.1.now.name name ∙ ap (λ bytes. bytes_eq name bytes) (sym under.0) ∙ sym (is_eq-slice_cmp name (string_bytes e.0)) in
+    name_back e.1.now.name name ∙ ap (λ bytes. bytes_eq name bytes) (sym under.0) ∙ sym (is_eq-slice_cmp name (string_bytes e.0)) in
     elim (cases_Bool (is_eq (slice_cmp nat_cmp name (string_bytes e.0)))) [
       | inl is ↦ rw (same ∙ is, is) refl
       | inr not ↦ rw (same ∙ not, not) (named_is es under.1 name)

@@ -1,5 +1,5 @@
 -- What the changes of a pass make of a world is what the pass makes of it.
-use Rattle.std.proofs.Common.{◌≡◌, ℕ, ◌<◌, ◌==◌, if◌then◌else◌, List, [], ◌∷◌, ◌++◌, map, refl, sym, ap, subst, ◌∙◌}
+use Rattle.std.proofs.Common.{◌≡◌, ℕ, false, ◌<◌, ◌==◌, if◌then◌else◌, List, [], ◌∷◌, ◌++◌, map, refl, sym, ap, subst, ◌∙◌}
 use Rattle.std.proofs.lemmas.Bool.{eq-eqb}
 use Rattle.std.specs.List.{AllByRecursion, filter, flat_map}
 use Rattle.std.specs.Prelude.{find, not, Some}
@@ -20,7 +20,7 @@ use Rattle.wu_rules.specs.declared.due.Pass.TheVariants.{Purge}
 use Rattle.wu_store.proofs.ChangingLemmas.{archived_made, archived_right, grants_made, grants_right}
 use Rattle.wu_store.proofs.PlacedLemmas.{Rises, is_other, replaced, world_rises}
 use Rattle.wu_machine.specs.Passes.{archives, granted, images, passed}
-use Rattle.wu_plans.proofs.TouchedLemmas.{made_append, others_found, right_append}
+use Rattle.wu_plans.proofs.TouchedLemmas.{ChangesTo, made_append, others_found, right_append}
 use Rattle.wu_machine.proofs.ImageLemmas.{Above, IsPart, none, taken, left, apart, first_ones, leaves, leaves_left, leaves_more, leaves_taken, part_all}
 
 -- each is found there by its number
@@ -35,6 +35,41 @@ own_numbers (w ∷ ws) up = (rw (eq-eqb w.number w.number refl) refl, behind w w
     behind w [] ws above has = tt
     behind w (t ∷ ts) ws above has = let off = apart w.number t.number above.0 in (rw off.0 has.0, behind w ts ws above.1 has.1)
 
+-- ---- one workunit after another, each found by its number
+
+abbrev all_steps : (Workunit → List Workunit → List Workunit) → List Workunit → List Workunit → List Workunit
+all_steps step [] ws = ws
+all_steps step (t ∷ ts) ws = all_steps step ts (step t ws)
+
+-- a step leaves images in the place of one workunit, and the others as they are
+module _ (step : Workunit → List Workunit → List Workunit) (image : Workunit → List Workunit) (ends : (t : Workunit) → step t [] ≡ [])
+    (keeps : (t w : Workunit) (ws : List Workunit) → (w.number == t.number) ≡ false → step t (w ∷ ws) ≡ w ∷ step t ws)
+    (takes : (t : Workunit) (ws : List Workunit) → step t (t ∷ ws) ≡ image t ++ step t ws) (numbers : (t : Workunit) → AllByRecursion (λ (v : Workunit). v.number ≡ t.number) (image t)) where
+  steps_below : (w : Workunit) (ts ws : List Workunit) → Above w.number ts → all_steps step ts (w ∷ ws) ≡ w ∷ all_steps step ts ws
+  steps_below w [] ws above = refl
+  steps_below w (t ∷ ts) ws above = ap (all_steps step ts) (keeps t w ws (apart w.number t.number above.0).0) ∙ steps_below w ts (step t ws) above.1
+
+  step_above : (t : Workunit) (ws : List Workunit) → Above t.number ws → step t ws ≡ ws
+  step_above t [] above = ends t
+  step_above t (w ∷ ws) above = keeps t w ws (apart t.number w.number above.0).1 ∙ ap (λ l. w ∷ l) (step_above t ws above.1)
+
+  steps_over : (n : ℕ) (is ts ws : List Workunit) → AllByRecursion (λ (v : Workunit). v.number ≡ n) is → Above n ts → all_steps step ts (is ++ ws) ≡ is ++ all_steps step ts ws
+  steps_over n [] ts ws same above = refl
+  steps_over n (i ∷ is) ts ws same above = steps_below i ts (is ++ ws) (subst (λ m. Above m ts) (sym same.0) above) ∙ ap (λ l. i ∷ l) (steps_over n is ts ws same.1 above)
+
+  pub steps_part : {ts ws : List Workunit} → IsPart ts ws → Rises ws → all_steps step ts ws ≡ flat_map (leaves image ts) ws
+  steps_part none up = refl
+  steps_part (taken {w} {ts} {ws} part) up =
+      ap (all_steps step ts) (takes w ws ∙ ap (λ l. image w ++ l) (step_above w ws up.0))
+      ∙ steps_over w.number (image w) ts ws (numbers w) (part_all (λ v. w.number < v.number) part up.0)
+      ∙ ap (λ l. image w ++ l) (steps_part part up.1 ∙ sym (leaves_more image w ts ws up.0))
+      ∙ ap (λ l. l ++ flat_map (leaves image (w ∷ ts)) ws) (sym (leaves_taken image w ts))
+  steps_part (left {w} {ts} {ws} part) up =
+      let above = part_all (λ v. w.number < v.number) part up.0 in
+      steps_below w ts ws above
+      ∙ ap (λ l. w ∷ l) (steps_part part up.1)
+      ∙ ap (λ l. l ++ flat_map (leaves image ts) ws) (sym (leaves_left image w ts above))
+
 -- ---- images in the places of workunits
 
 -- each in place of the one of its number
@@ -42,47 +77,17 @@ abbrev pub replacements : (Workunit → Workunit) → List Workunit → List Cha
 replacements image ts = map (λ w. Replace w (image w)) ts
 
 module _ (image : Workunit → Workunit) (numbers : (w : Workunit) → (image w).number ≡ w.number) where
-  -- the images of these, one after another
-  abbrev put : List Workunit → List Workunit → List Workunit
-  put [] ws = ws
-  put (t ∷ ts) ws = put ts (replaced (image t) ws)
+  abbrev put : Workunit → List Workunit → List Workunit
+  put t ws = replaced (image t) ws
 
-  made_put : (ts : List Workunit) (world : World) → made_all (replacements image ts) world ≡ record world { workunits = put ts world.workunits }
+  made_put : (ts : List Workunit) (world : World) → made_all (replacements image ts) world ≡ record world { workunits = all_steps put ts world.workunits }
   made_put [] world = refl
   made_put (t ∷ ts) world = made_put ts (with_replaced (image t) world)
 
-  put_below : (w : Workunit) (ts ws : List Workunit) → Above w.number ts → put ts (w ∷ ws) ≡ w ∷ put ts ws
-  put_below w [] ws above = refl
-  put_below w (t ∷ ts) ws above =
-      let off = apart w.number t.number above.0 in
-      ap (λ b. put ts ((if b then image t else w) ∷ replaced (image t) ws)) (ap (λ n. w.number == n) (numbers t) ∙ off.0)
-      ∙ put_below w ts (replaced (image t) ws) above.1
-
-  replaced_above : (t : Workunit) (ws : List Workunit) → Above t.number ws → replaced (image t) ws ≡ ws
-  replaced_above t [] above = refl
-  replaced_above t (w ∷ ws) above =
-      let off = apart t.number w.number above.0 in
-      let stays = ap (λ n. w.number == n) (numbers t) ∙ off.1 in
-      (λ i. (if stays i then image t else w) ∷ replaced_above t ws above.1 i)
-
-  put_taken : (w : Workunit) (ts ws : List Workunit) → Above w.number ts → Above w.number ws → put (w ∷ ts) (w ∷ ws) ≡ image w ∷ put ts ws
-  put_taken w ts ws above_ts above_ws =
-      let on = eq-eqb w.number (image w).number (sym (numbers w)) in
-      ap (λ b. put ts ((if b then image w else w) ∷ replaced (image w) ws)) on
-      ∙ ap (λ l. put ts (image w ∷ l)) (replaced_above w ws above_ws)
-      ∙ put_below (image w) ts ws (subst (λ n. Above n ts) (sym (numbers w)) above_ts)
-
-  put_part : {ts ws : List Workunit} → IsPart ts ws → Rises ws → put ts ws ≡ flat_map (leaves (λ w. image w ∷ []) ts) ws
-  put_part none up = refl
-  put_part (taken {w} {ts} {ws} part) up =
-      put_taken w ts ws (part_all (λ v. w.number < v.number) part up.0) up.0
-      ∙ ap (λ l. image w ∷ l) (put_part part up.1 ∙ sym (leaves_more (λ v. image v ∷ []) w ts ws up.0))
-      ∙ ap (λ l. l ++ flat_map (leaves (λ v. image v ∷ []) (w ∷ ts)) ws) (sym (leaves_taken (λ v. image v ∷ []) w ts))
-  put_part (left {w} {ts} {ws} part) up =
-      let above = part_all (λ v. w.number < v.number) part up.0 in
-      put_below w ts ws above
-      ∙ ap (λ l. w ∷ l) (put_part part up.1)
-      ∙ ap (λ l. l ++ flat_map (leaves (λ v. image v ∷ []) ts) ws) (sym (leaves_left (λ v. image v ∷ []) w ts above))
+  put_part : {ts ws : List Workunit} → IsPart ts ws → Rises ws → all_steps put ts ws ≡ flat_map (leaves (λ w. image w ∷ []) ts) ws
+  put_part = steps_part put (λ w. image w ∷ []) (λ t. refl)
+      (λ t w ws off. ap (λ b. (if b then image t else w) ∷ put t ws) (ap (λ n. w.number == n) (numbers t) ∙ off))
+      (λ t ws. ap (λ b. (if b then image t else t) ∷ put t ws) (eq-eqb t.number (image t).number (sym (numbers t)))) (λ t. (numbers t, tt))
 
   -- the others stay
   still_have : (t : Workunit) (ts ws : List Workunit) → Above t.number ts → Have ws ts → Have (replaced (image t) ws) ts
@@ -106,11 +111,10 @@ part_rises (left part) up = part_rises part up.1
 
 -- ---- workunits taken out
 
-abbrev cut : List Workunit → List Workunit → List Workunit
-cut [] ws = ws
-cut (t ∷ ts) ws = cut ts (filter (is_other t.number) ws)
+abbrev cut : Workunit → List Workunit → List Workunit
+cut t ws = filter (is_other t.number) ws
 
-made_cut : (ts : List Workunit) (world : World) → made_all (map (λ (w : Workunit). Remove w.number) ts) world ≡ record world { workunits = cut ts world.workunits }
+made_cut : (ts : List Workunit) (world : World) → made_all (map (λ (w : Workunit). Remove w.number) ts) world ≡ record world { workunits = all_steps cut ts world.workunits }
 made_cut [] world = refl
 made_cut (t ∷ ts) world = made_cut ts (without_workunit t.number world)
 
@@ -118,36 +122,10 @@ right_cut : (ts : List Workunit) (world : World) → AreRight (map (λ (w : Work
 right_cut [] world = tt
 right_cut (t ∷ ts) world = (tt, right_cut ts (without_workunit t.number world))
 
-cut_below : (w : Workunit) (ts ws : List Workunit) → Above w.number ts → cut ts (w ∷ ws) ≡ w ∷ cut ts ws
-cut_below w [] ws above = refl
-cut_below w (t ∷ ts) ws above =
-    let off = apart w.number t.number above.0 in
-    ap (λ b. cut ts (if not b then w ∷ filter (is_other t.number) ws else filter (is_other t.number) ws)) off.0
-    ∙ cut_below w ts (filter (is_other t.number) ws) above.1
-
-cut_above : (t : Workunit) (ws : List Workunit) → Above t.number ws → filter (is_other t.number) ws ≡ ws
-cut_above t [] above = refl
-cut_above t (w ∷ ws) above =
-    let off = apart t.number w.number above.0 in
-    ap (λ b. if not b then w ∷ filter (is_other t.number) ws else filter (is_other t.number) ws) off.1
-    ∙ ap (λ l. w ∷ l) (cut_above t ws above.1)
-
-cut_taken : (w : Workunit) (ts ws : List Workunit) → Above w.number ws → cut (w ∷ ts) (w ∷ ws) ≡ cut ts ws
-cut_taken w ts ws above =
-    ap (λ b. cut ts (if not b then w ∷ filter (is_other w.number) ws else filter (is_other w.number) ws)) (eq-eqb w.number w.number refl)
-    ∙ ap (cut ts) (cut_above w ws above)
-
-cut_part : {ts ws : List Workunit} → IsPart ts ws → Rises ws → cut ts ws ≡ flat_map (leaves (λ w. []) ts) ws
-cut_part none up = refl
-cut_part (taken {w} {ts} {ws} part) up =
-    cut_taken w ts ws up.0
-    ∙ cut_part part up.1 ∙ sym (leaves_more (λ v. []) w ts ws up.0)
-    ∙ ap (λ l. l ++ flat_map (leaves (λ v. []) (w ∷ ts)) ws) (sym (leaves_taken (λ v. []) w ts))
-cut_part (left {w} {ts} {ws} part) up =
-    let above = part_all (λ v. w.number < v.number) part up.0 in
-    cut_below w ts ws above
-    ∙ ap (λ l. w ∷ l) (cut_part part up.1)
-    ∙ ap (λ l. l ++ flat_map (leaves (λ v. []) ts) ws) (sym (leaves_left (λ v. []) w ts above))
+cut_part : {ts ws : List Workunit} → IsPart ts ws → Rises ws → all_steps cut ts ws ≡ flat_map (leaves (λ w. []) ts) ws
+cut_part = steps_part cut (λ w. []) (λ t. refl)
+    (λ t w ws off. ap (λ b. if not b then w ∷ cut t ws else cut t ws) off)
+    (λ t ws. ap (λ b. if not b then t ∷ cut t ws else cut t ws) (eq-eqb t.number t.number refl)) (λ t. tt)
 
 -- ---- what a pass makes of a world that tables stand for
 
@@ -160,28 +138,26 @@ module _ (db : Database) (world : World) (stands : Refines db world) (pass : Pas
   chosen_part = first_ones (changes pass now min_age) world.workunits limit
 
   -- where a workunit leaves an image of its number, that takes its place
-  module _ (image : Workunit → Workunit) (numbers : (w : Workunit) → (image w).number ≡ w.number) (is : (w : Workunit) → images pass now w ≡ image w ∷ []) where
-    pub pass_replaces : made_all (replacements image (chosen pass now min_age limit world)) world ≡ record world { workunits = (passed pass now min_age limit world).workunits }
-    pass_replaces =
-        made_put image numbers (chosen pass now min_age limit world) world
-        ∙ ap (λ ws. record world { workunits = ws }) (put_part image numbers chosen_part (world_rises db world stands))
-        ∙ (λ i. record world { workunits = flat_map (leaves (λ w. sym (is w) i) (chosen pass now min_age limit world)) world.workunits })
-
-    pub pass_replaces_right : KnowsClasses world → AreRight (replacements image (chosen pass now min_age limit world)) world
-    pass_replaces_right classed =
-        let up = world_rises db world stands in
-        right_put image numbers (chosen pass now min_age limit world) world classed (part_rises chosen_part up)
-        (part_all (λ w. find (λ (v : Workunit). v.number == w.number) world.workunits ≡ Some w) chosen_part (own_numbers world.workunits up))
+  pub pass_replaces : (image : Workunit → Workunit) → ((w : Workunit) → (image w).number ≡ w.number) → ((w : Workunit) → images pass now w ≡ image w ∷ [])
+      → ChangesTo (replacements image (chosen pass now min_age limit world)) world (record world { workunits = (passed pass now min_age limit world).workunits })
+  pass_replaces image numbers is = (
+    made_put image numbers (chosen pass now min_age limit world) world
+        ∙ ap (λ ws. record world { workunits = ws }) (put_part image numbers chosen_part up)
+        ∙ (λ i. record world { workunits = flat_map (leaves (λ w. sym (is w) i) (chosen pass now min_age limit world)) world.workunits }),
+    λ classed. right_put image numbers (chosen pass now min_age limit world) world classed (part_rises chosen_part up)
+        (part_all (λ w. find (λ (v : Workunit). v.number == w.number) world.workunits ≡ Some w) chosen_part (own_numbers world.workunits up)),
+  )
+    where
+      up : Rises world.workunits
+      up = world_rises db world stands
 
 -- a purge takes each chosen workunit out
-module _ (db : Database) (world : World) (stands : Refines db world) (now min_age limit : ℕ) where
-  pub purge_removes : made_all (removals (chosen Purge now min_age limit world)) world ≡ record world { workunits = (passed Purge now min_age limit world).workunits }
-  purge_removes =
-      made_cut (chosen Purge now min_age limit world) world
-      ∙ ap (λ ws. record world { workunits = ws }) (cut_part (chosen_part db world stands Purge now min_age limit) (world_rises db world stands))
-
-  pub purge_removes_right : AreRight (removals (chosen Purge now min_age limit world)) world
-  purge_removes_right = right_cut (chosen Purge now min_age limit world) world
+pub purge_removes : (db : Database) (world : World) → Refines db world → (now min_age limit : ℕ) → ChangesTo (removals (chosen Purge now min_age limit world)) world (record world { workunits = (passed Purge now min_age limit world).workunits })
+purge_removes db world stands now min_age limit = (
+  made_cut (chosen Purge now min_age limit world) world
+      ∙ ap (λ ws. record world { workunits = ws }) (cut_part (chosen_part db world stands Purge now min_age limit) (world_rises db world stands)),
+  λ classed. right_cut (chosen Purge now min_age limit world) world,
+)
 
 -- ---- and then its grants and its archived rows
 
@@ -198,48 +174,23 @@ and_given pass now min_age limit world given row_place first = first ++ given ++
 
 -- where the first changes make the pass's workunits, all make what the pass makes
 module _ (world : World) (pass : Pass) (now min_age limit : ℕ) (given : List Change) (row_place : ℕ) (keeps : KeepsGrants world.grants (pass_grants pass now min_age limit world) given) (first : List Change)
-    (makes : made_all first world ≡ record world { workunits = (passed pass now min_age limit world).workunits }) where
-  grants_follow : made_all (first ++ given) world
-      ≡ record world { workunits = (passed pass now min_age limit world).workunits; grants = world.grants ++ pass_grants pass now min_age limit world }
-  grants_follow =
-      made_append first given world ∙ ap (made_all given) makes
-      ∙ grants_made world.grants (pass_grants pass now min_age limit world) given (record world { workunits = (passed pass now min_age limit world).workunits }) keeps
+    (makes : ChangesTo first world (record world { workunits = (passed pass now min_age limit world).workunits })) where
+  abbrev with_images : World
+  with_images = record world { workunits = (passed pass now min_age limit world).workunits }
 
-  pub pass_made : made_all (and_given pass now min_age limit world given row_place first) world ≡ passed pass now min_age limit world
-  pass_made =
-      let rows = archived_from row_place (pass_rows pass now min_age limit world) in
-      made_append (first ++ given) rows world ∙ ap (made_all rows) grants_follow
-      ∙ archived_made row_place (pass_rows pass now min_age limit world)
-      (record world { workunits = (passed pass now min_age limit world).workunits; grants = world.grants ++ pass_grants pass now min_age limit world })
+  abbrev with_granted : World
+  with_granted = record with_images { grants = world.grants ++ pass_grants pass now min_age limit world }
 
-  pub pass_made_right : AreRight first world → IsNextPlace row_place world.archived → AreRight (and_given pass now min_age limit world given row_place first) world
-  pass_made_right right row_next =
-      let rows = archived_from row_place (pass_rows pass now min_age limit world) in
-      right_append (first ++ given) rows world
-      (right_append first given world right (subst (AreRight given) (sym makes) (grants_right (pass_grants pass now min_age limit world) given (record world { workunits = (passed pass now min_age limit world).workunits }) keeps)))
-      (subst (AreRight rows) (sym grants_follow) (archived_right row_place (pass_rows pass now min_age limit world)
-      (record world { workunits = (passed pass now min_age limit world).workunits; grants = world.grants ++ pass_grants pass now min_age limit world }) row_next))
+  abbrev rows : List Change
+  rows = archived_from row_place (pass_rows pass now min_age limit world)
 
--- a pass of which each workunit leaves an image of its number
-module _ (db : Database) (world : World) (stands : Refines db world) (pass : Pass) (now min_age limit : ℕ) (given : List Change) (row_place : ℕ) (keeps : KeepsGrants world.grants (pass_grants pass now min_age limit world) given)
-    (image : Workunit → Workunit) (numbers : (w : Workunit) → (image w).number ≡ w.number) (is : (w : Workunit) → images pass now w ≡ image w ∷ []) where
-  pub pass_makes : made_all (and_given pass now min_age limit world given row_place (replacements image (chosen pass now min_age limit world))) world ≡ passed pass now min_age limit world
-  pass_makes =
-      pass_made world pass now min_age limit given row_place keeps (replacements image (chosen pass now min_age limit world)) (pass_replaces db world stands pass now min_age limit image numbers is)
+  grants_follow : made_all (first ++ given) world ≡ with_granted
+  grants_follow = made_append first given world ∙ ap (made_all given) makes.0 ∙ grants_made world.grants (pass_grants pass now min_age limit world) given with_images keeps
 
-  pub pass_makes_right : KnowsClasses world → IsNextPlace row_place world.archived
-      → AreRight (and_given pass now min_age limit world given row_place (replacements image (chosen pass now min_age limit world))) world
-  pass_makes_right classed =
-      pass_made_right world pass now min_age limit given row_place keeps (replacements image (chosen pass now min_age limit world)) (pass_replaces db world stands pass now min_age limit image numbers is)
-      (pass_replaces_right db world stands pass now min_age limit image numbers is classed)
-
--- a purge
-module _ (db : Database) (world : World) (stands : Refines db world) (now min_age limit : ℕ) (given : List Change) (row_place : ℕ) (keeps : KeepsGrants world.grants (pass_grants Purge now min_age limit world) given) where
-  pub purge_makes : made_all (and_given Purge now min_age limit world given row_place (removals (chosen Purge now min_age limit world))) world ≡ passed Purge now min_age limit world
-  purge_makes = pass_made world Purge now min_age limit given row_place keeps (removals (chosen Purge now min_age limit world)) (purge_removes db world stands now min_age limit)
-
-  pub purge_makes_right : IsNextPlace row_place world.archived
-      → AreRight (and_given Purge now min_age limit world given row_place (removals (chosen Purge now min_age limit world))) world
-  purge_makes_right =
-      pass_made_right world Purge now min_age limit given row_place keeps (removals (chosen Purge now min_age limit world)) (purge_removes db world stands now min_age limit)
-      (purge_removes_right db world stands now min_age limit)
+  pub pass_made : IsNextPlace row_place world.archived → ChangesTo (and_given pass now min_age limit world given row_place first) world (passed pass now min_age limit world)
+  pass_made row_next = (
+    made_append (first ++ given) rows world ∙ ap (made_all rows) grants_follow ∙ archived_made row_place (pass_rows pass now min_age limit world) with_granted,
+    λ classed. right_append (first ++ given) rows world
+        (right_append first given world (makes.1 classed) (subst (AreRight given) (sym makes.0) (grants_right (pass_grants pass now min_age limit world) given with_images keeps)))
+        (subst (AreRight rows) (sym grants_follow) (archived_right row_place (pass_rows pass now min_age limit world) with_granted row_next)),
+  )

@@ -13,8 +13,7 @@ use Rattle.wu_rules.specs.Transition.{transitioned}
 use Rattle.wu_rules.specs.Validation as validation
 use Rattle.wu_schema.specs.Refines.{Refines}
 use Rattle.wu_store.specs.Changes.{IsNextPlace}
-use Rattle.wu_store.specs.Changing.{archived_from, AreRight, KeepsGrants, made_all}
-use Rattle.wu_store.specs.StandsFor.{KnowsClasses}
+use Rattle.wu_store.specs.Changing.{archived_from, KeepsGrants}
 use Rattle.wu_rules.specs.Due.{chosen}
 use Rattle.wu_store.specs.declared.changes.Change.{Change}
 use Rattle.wu_store.specs.declared.changes.Change.TheVariants.{Archive, Remove}
@@ -24,19 +23,21 @@ use Rattle.wu_machine.specs.declared.command.Answer.TheVariants as answer
 use Rattle.wu_plans.specs.declared.passes.Ask.{Ask}
 use Rattle.wu_plans.specs.declared.passes.Handled.{Handled}
 use Rattle.wu_machine.specs.Machine.{is_limit_right, IsUpToDate}
-use Rattle.wu_machine.specs.Passes.{archives, granted, handled, passed}
+use Rattle.wu_machine.specs.Passes.{archives, granted, passed}
 use Rattle.wu_plans.specs.PassPlans.{asked, AddsFrom, change_by, HandlesAll, HasGiven, HasGrants}
 use Rattle.wu_plans.specs.Planning.{Plans}
 use Rattle.wu_machine.specs.Requests.{Passed}
-use Rattle.wu_plans.proofs.PassLemmas.{and_given, pass_grants, pass_makes, pass_makes_right, purge_makes, purge_makes_right}
+use Rattle.wu_plans.proofs.PassLemmas.{and_given, pass_grants, pass_made, pass_replaces, purge_removes}
+use Rattle.wu_plans.proofs.TouchedLemmas.{ChangesTo}
 use Rattle.wu_machine.proofs.ImageLemmas.{assimilated_of, emptied_of, pass_asked, transitioned_of, validated_of}
-use Rattle.wu_plans.proofs.PlanLemmas.{enumerate_more, classed}
+use Rattle.wu_rules.proofs.Lists.{enumerate_from-append}
+use Rattle.wu_plans.proofs.PlanLemmas.{classed}
 
 -- ---- one more at the next place
 
 module _ {X : Type 0} (change : ℕ × X → Change) where
   placed_more : (place : ℕ) (xs : List X) (x : X) → map change (enumerate_from place (xs ++ x ∷ [])) ≡ map change (enumerate_from place xs) ++ change (place + length xs, x) ∷ []
-  placed_more place xs x = ap (map change) (enumerate_more place xs x) ∙ map-append change (enumerate_from place xs) ((place + length xs, x) ∷ [])
+  placed_more place xs x = ap (map change) (enumerate_from-append place xs (x ∷ [])) ∙ map-append change (enumerate_from place xs) ((place + length xs, x) ∷ [])
 
 pub row_placed : (place seq : ℕ) (rows : List Archived) (a : Archived) (first changes new : List Change) → seq ≡ place + length rows
     → changes ≡ first ++ archived_from place rows → new ≡ changes ++ Archive seq a ∷ [] → new ≡ first ++ archived_from place (rows ++ a ∷ [])
@@ -61,34 +62,40 @@ module _ (db : Database) (world : World) (stands : Refines db world) (now min_ag
   abbrev KeepsAll : Pass → Type 0
   KeepsAll pass = KeepsGrants world.grants (pass_grants pass now min_age limit world) given
 
-  pub pass_all_makes : (pass : Pass) → KeepsAll pass → made_all (all_changes pass) world ≡ passed pass now min_age limit world
-  pass_all_makes Transition keeps = pass_makes db world stands Transition now min_age limit given row_place keeps (λ w. transitioned w now) (λ w. (transitioned_of now w).0) (λ w. refl)
-  pass_all_makes Validate keeps = pass_makes db world stands Validate now min_age limit given row_place keeps validation.validated (λ w. (validated_of w).0) (λ w. refl)
-  pass_all_makes Assimilate keeps = pass_makes db world stands Assimilate now min_age limit given row_place keeps (λ w. assimilated w now) (λ w. (assimilated_of now w).0) (λ w. refl)
-  pass_all_makes Delete keeps = pass_makes db world stands Delete now min_age limit given row_place keeps emptied (λ w. (emptied_of w).0) (λ w. refl)
-  pass_all_makes Purge keeps = purge_makes db world stands now min_age limit given row_place keeps
+  workunits_made : (pass : Pass) → ChangesTo (map (change_by pass now) (chosen pass now min_age limit world)) world (record world { workunits = (passed pass now min_age limit world).workunits })
+  workunits_made Transition = pass_replaces db world stands Transition now min_age limit (λ w. transitioned w now) (λ w. (transitioned_of now w).0) (λ w. refl)
+  workunits_made Validate = pass_replaces db world stands Validate now min_age limit validation.validated (λ w. (validated_of w).0) (λ w. refl)
+  workunits_made Assimilate = pass_replaces db world stands Assimilate now min_age limit (λ w. assimilated w now) (λ w. (assimilated_of now w).0) (λ w. refl)
+  workunits_made Delete = pass_replaces db world stands Delete now min_age limit emptied (λ w. (emptied_of w).0) (λ w. refl)
+  workunits_made Purge = purge_removes db world stands now min_age limit
 
-  module _ (known : KnowsClasses world) (row_next : IsNextPlace row_place world.archived) where
-    pub pass_all_right : (pass : Pass) → KeepsAll pass → AreRight (all_changes pass) world
-    pass_all_right Transition keeps = pass_makes_right db world stands Transition now min_age limit given row_place keeps (λ w. transitioned w now) (λ w. (transitioned_of now w).0) (λ w. refl) known row_next
-    pass_all_right Validate keeps = pass_makes_right db world stands Validate now min_age limit given row_place keeps validation.validated (λ w. (validated_of w).0) (λ w. refl) known row_next
-    pass_all_right Assimilate keeps = pass_makes_right db world stands Assimilate now min_age limit given row_place keeps (λ w. assimilated w now) (λ w. (assimilated_of now w).0) (λ w. refl) known row_next
-    pass_all_right Delete keeps = pass_makes_right db world stands Delete now min_age limit given row_place keeps emptied (λ w. (emptied_of w).0) (λ w. refl) known row_next
-    pass_all_right Purge keeps = purge_makes_right db world stands now min_age limit given row_place keeps row_next
+  pub pass_all : (pass : Pass) → KeepsAll pass → IsNextPlace row_place world.archived → ChangesTo (all_changes pass) world (passed pass now min_age limit world)
+  pass_all pass keeps = pass_made world pass now min_age limit given row_place keeps _ (workunits_made pass)
+
+-- the plan of a pass
+module _ (db : Database) (world : World) (stands : Refines db world) (is : IsUpToDate world) (ask : Ask) (right : is_limit_right ask.pass ask.limit ask.min_age ≡ true)
+    (given : List Change) (row_place : ℕ) (keeps : KeepsGrants world.grants (pass_grants ask.pass ask.moment ask.min_age ask.limit world) given) (row_next : IsNextPlace row_place world.archived)
+    (none_given : chosen ask.pass ask.moment ask.min_age ask.limit world ≡ [] → given ≡ []) where
+  abbrev behind : List Workunit → List Change
+  behind ts = map (change_by ask.pass ask.moment) ts ++ given ++ archived_from row_place (flat_map (archives ask.pass ask.moment) ts)
+
+  all_planned : (count : ℕ) → count ≡ length (chosen ask.pass ask.moment ask.min_age ask.limit world) → Plans world (asked ask) (answer.Passed ask.pass count) (all_changes db world stands ask.moment ask.min_age ask.limit given row_place ask.pass)
+  all_planned count counted =
+      let makes = pass_all db world stands ask.moment ask.min_age ask.limit given row_place ask.pass keeps row_next in
+      record {
+        done = pass_asked world is ask.pass ask.moment ask.limit ask.min_age right ∙ (λ i. Ok (Passed ask.pass (sym counted i), sym makes.0 i));
+        right = makes.1 (classed world is);
+        idle = λ none. ap behind none ∙ ap (λ cs. cs ++ []) (none_given none);
+      }
 
 -- the changes of what was handled of the workunits that are chosen, with their places
 module _ (db : Database) (world : World) (stands : Refines db world) (is : IsUpToDate world) (ask : Ask) (right : is_limit_right ask.pass ask.limit ask.min_age ≡ true)
     (taken : List Workunit) (are : taken ≡ chosen ask.pass ask.moment ask.min_age ask.limit world)
     (done_with : Handled) (all : HandlesAll ask.pass ask.moment taken done_with) (changes : List Change) (given : HasGiven world done_with changes) where
-  -- what follows the changes of workunits
-  abbrev behind : List Workunit → List Change
-  behind ts = map (change_by ask.pass ask.moment) ts ++ given.given ++ archived_from given.row_place (flat_map (archives ask.pass ask.moment) ts)
-
-  changes_by : changes ≡ behind taken
-  changes_by = given.changes_are ∙ (λ i. all.changes i ++ given.given ++ archived_from given.row_place (all.archived i))
-
   changes_are : changes ≡ all_changes db world stands ask.moment ask.min_age ask.limit given.given given.row_place ask.pass
-  changes_are = changes_by ∙ ap behind are
+  changes_are =
+      given.changes_are ∙ (λ i. all.changes i ++ given.given ++ archived_from given.row_place (all.archived i))
+      ∙ ap (λ ts. map (change_by ask.pass ask.moment) ts ++ given.given ++ archived_from given.row_place (flat_map (archives ask.pass ask.moment) ts)) are
 
   keeps : KeepsGrants world.grants (pass_grants ask.pass ask.moment ask.min_age ask.limit world) given.given
   keeps = subst (λ gs. KeepsGrants world.grants gs given.given) (all.grants ∙ ap (flat_map (granted ask.pass)) are) given.keeps
@@ -98,17 +105,8 @@ module _ (db : Database) (world : World) (stands : Refines db world) (is : IsUpT
 
   pub pass_planned : (count : ℕ) → count ≡ length taken → Plans world (asked ask) (answer.Passed ask.pass count) changes
   pass_planned count counted =
-      let made : made_all changes world ≡ passed ask.pass ask.moment ask.min_age ask.limit world =
-      ap (λ cs. made_all cs world) changes_are ∙ pass_all_makes db world stands ask.moment ask.min_age ask.limit given.given given.row_place ask.pass keeps in
-      let number : handled ask.pass ask.moment ask.min_age ask.limit world ≡ count = sym (counted ∙ ap (λ ts. length ts) are) in
-      record {
-        done =
-            pass_asked world is ask.pass ask.moment ask.limit ask.min_age right
-            ∙ (λ i. Ok (Passed ask.pass (number i), sym made i));
-        right = subst (λ cs. AreRight cs world) (sym changes_are)
-            (pass_all_right db world stands ask.moment ask.min_age ask.limit given.given given.row_place (classed world is) given.row_next ask.pass keeps);
-        idle = λ none. changes_by ∙ ap behind (are ∙ none) ∙ ap (λ cs. cs ++ []) (none_kept (are ∙ none));
-      }
+      subst (Plans world (asked ask) (answer.Passed ask.pass count)) (sym changes_are)
+      (all_planned db world stands is ask right given.given given.row_place keeps given.row_next (λ none. none_kept (are ∙ none)) count (counted ∙ ap (λ ts. length ts) are))
 
 -- ---- a purge
 
@@ -152,14 +150,5 @@ module _ (db : Database) (world : World) (stands : Refines db world) (is : IsUpT
   pub purge_planned : (count : ℕ) → count ≡ length numbers → Plans world (asked ask) (answer.Passed ask.pass count) (map Remove numbers)
   purge_planned count counted =
       let taken = chosen ask.pass ask.moment ask.min_age ask.limit world in
-      let made : made_all (map Remove numbers) world ≡ passed ask.pass ask.moment ask.min_age ask.limit world =
-      ap (λ cs. made_all cs world) removed_are ∙ pass_all_makes db world stands ask.moment ask.min_age ask.limit [] row_place ask.pass purge_keeps in
-      let number : handled ask.pass ask.moment ask.min_age ask.limit world ≡ count = sym (counted ∙ ap (λ ns. length ns) are ∙ length-map taken (λ (w : Workunit). w.number)) in
-      record {
-        done =
-            pass_asked world is ask.pass ask.moment ask.limit ask.min_age right
-            ∙ (λ i. Ok (Passed ask.pass (number i), sym made i));
-        right = subst (λ cs. AreRight cs world) (sym removed_are)
-            (pass_all_right db world stands ask.moment ask.min_age ask.limit [] row_place (classed world is) refl ask.pass purge_keeps);
-        idle = λ none. ap (map Remove) (are ∙ ap (map (λ (w : Workunit). w.number)) none);
-      }
+      subst (Plans world (asked ask) (answer.Passed ask.pass count)) (sym removed_are)
+      (all_planned db world stands is ask right [] row_place purge_keeps refl (λ none. refl) count (counted ∙ ap (λ ns. length ns) are ∙ length-map taken (λ (w : Workunit). w.number)))

@@ -24,6 +24,7 @@ use Rattle.wu_core.specs.World.{World}
 use Rattle.wu_core.specs.Storable.{AreStorable, IsStorable}
 use Rattle.wu_store.specs.Loading.{LoadsNamed}
 use Rattle.wu_store.specs.StandsFor.{KnowsClasses}
+use Rattle.wu_rules.proofs.Lists.{enumerate_from-append}
 use Rattle.wu_machine.proofs.StorableLemmas.{found_is}
 
 pub named_loads : (world : World) → KnowsClasses world → AreStorable world → (name : List ℕ) → LoadsNamed name world
@@ -41,16 +42,12 @@ no_classes world version is older known = absurd (omega (arith, is, older, known
 abbrev pub added : Parameters → ℕ × Job → Change
 added params p = Add (new_workunit params p.0 p.1)
 
-pub enumerate_more : {X : Type 0} (n : ℕ) (xs : List X) (x : X) → enumerate_from n (xs ++ x ∷ []) ≡ enumerate_from n xs ++ (n + length xs, x) ∷ []
-enumerate_more n [] x = let e : n ≡ n + 0 = omega arith in ap (λ k. (k, x) ∷ []) e
-enumerate_more n (y ∷ xs) x = let e : (n + 1) + length xs ≡ n + length (y ∷ xs) = omega arith in ap (λ rest. (n, y) ∷ rest) (enumerate_more (n + 1) xs x ∙ ap (λ k. enumerate_from (n + 1) xs ++ (k, x) ∷ []) e)
-
 pub additions_more : (params : Parameters) (next : ℕ) (jobs : List Job) (job : Job) (changes new : List Change) → changes ≡ map (added params) (enumerate_from next jobs)
     → new ≡ changes ++ added params (next + length changes, job) ∷ [] → new ≡ map (added params) (enumerate_from next (jobs ++ job ∷ []))
 additions_more params next jobs job changes new are is =
     let long : length changes ≡ length jobs = ap (λ cs. length cs) are ∙ length-map (enumerate_from next jobs) (added params) ∙ length-enumerate_from next jobs in
     is ∙ ap (λ k. changes ++ added params (next + k, job) ∷ []) long ∙ ap (λ cs. cs ++ added params (next + length jobs, job) ∷ []) are
-    ∙ sym (ap (λ ps. map (added params) ps) (enumerate_more next jobs job) ∙ map-append (added params) (enumerate_from next jobs) ((next + length jobs, job) ∷ []))
+    ∙ sym (ap (λ ps. map (added params) ps) (enumerate_from-append next jobs (job ∷ [])) ∙ map-append (added params) (enumerate_from next jobs) ((next + length jobs, job) ∷ []))
 
 pub additions_whole : (params : Parameters) (next : ℕ) (jobs : List Job) (changes new : List Change) → changes ≡ map (added params) (enumerate_from next jobs)
     → new ≡ changes ++ Next (next + length changes) ∷ [] → new ≡ additions params next jobs

@@ -2,10 +2,12 @@
 use Rattle.std.proofs.Common.{◌≡◌, ◌≢◌, ℕ, suc, ◌<◌, ◌≤◌, ◌==◌, Bool, true, false, List, [], ◌∷◌, ◌++◌, length, map, Option, Some, None, refl, sym, ap, subst, ◌∙◌, inl, inr, arith, get_or, option_map}
 use Rattle.std.proofs.lemmas.Bool.{cases_Bool, eq-eqb, eqb-true, false_from_ne_true}
 use Rattle.std.proofs.lemmas.Bool.Decides.{Decides-like, same_from_decides}
+use Rattle.std.proofs.lemmas.List.{length-map, map-id}
 use Rattle.std.proofs.lemmas.Slice.Eq.{bytes_eq-Decides}
+use Rattle.wu_schema.proofs.Words.{filter-map}
 use Rattle.std.specs.List.{filter}
 use Rattle.std.specs.Option.{option_map_or}
-use Rattle.std.specs.Prelude.{find, bytes_eq, if◌then◌else◌}
+use Rattle.std.specs.Prelude.{◌&&◌, find, bytes_eq, if◌then◌else◌}
 use Rattle.wu_core.specs.World.{World}
 use Rattle.wu_core.specs.declared.workunit.Workunit.{Workunit}
 use Rattle.wu_store.specs.Changes.{with_replaced}
@@ -30,16 +32,20 @@ own_name a = (bytes_eq-Decides a a).1 refl
 other_name : (a b : List ℕ) → a ≢ b → bytes_eq a b ≡ false
 other_name a b apart = false_from_ne_true _ (λ is. apart (same_name a b is))
 
-name_back : (a b : List ℕ) → bytes_eq a b ≡ bytes_eq b a
+pub name_back : (a b : List ℕ) → bytes_eq a b ≡ bytes_eq b a
 name_back a b = same_from_decides _ _ (bytes_eq-Decides a b) (Decides-like (bytes_eq b a) (λ same. sym same) (λ same. sym same) (bytes_eq-Decides b a))
 
--- what is found has the name
-pub named_found : {T : Type 0} (named : T → List ℕ) (ts : List T) (n : List ℕ) (t : T) → find (λ v. bytes_eq (named v) n) ts ≡ Some t → named t ≡ n
-named_found named [] n t found = absurd cc
-named_found {T} named (v ∷ vs) n t found = elim (cases_Bool (bytes_eq (named v) n)) [
-  | inl is ↦ let it : Some v ≡ Some t = rw is at found in let same : v ≡ t = cc in subst (λ (u : T). named u ≡ n) same (same_name (named v) n is)
-  | inr not ↦ named_found named vs n t (rw not at found)
+-- what is found passes the test
+pub find_passes : {X : Type 0} (p : X → Bool) (xs : List X) (x : X) → find p xs ≡ Some x → p x ≡ true
+find_passes p [] x found = absurd cc
+find_passes p (y ∷ ys) x found = elim (cases_Bool (p y)) [
+  | inl is ↦ let same : Some y ≡ Some x = subst (λ b. (if b then Some y else find p ys) ≡ Some x) is found in let it : y ≡ x = cc in subst (λ z. p z ≡ true) it is
+  | inr not ↦ find_passes p ys x (subst (λ b. (if b then Some y else find p ys) ≡ Some x) not found)
 ]
+
+-- so it has the name that was looked for
+pub named_found : {T : Type 0} (named : T → List ℕ) (ts : List T) (n : List ℕ) (t : T) → find (λ v. bytes_eq (named v) n) ts ≡ Some t → named t ≡ n
+named_found named ts n t found = same_name (named t) n (find_passes (λ v. bytes_eq (named v) n) ts t found)
 
 abbrev workunit_of : List Workunit → List ℕ → Option Workunit
 workunit_of ws n = find (λ (w : Workunit). bytes_eq w.name n) ws
@@ -196,18 +202,14 @@ pub verdicts_more : {Row : Type 0} (rule : Rule Row) (world : World) (rows : Lis
 verdicts_more rule world [] row = refl
 verdicts_more rule world (first ∷ rows) row = ap (λ codes. row_verdict rule world first ∷ codes) (verdicts_more rule (after_row rule world first) rows row)
 
-same_all : (ws : List Workunit) (n : List ℕ) → map (λ (v : Workunit). if bytes_eq v.name n then v else v) ws ≡ ws
-same_all [] n = refl
-same_all (w ∷ ws) n = (λ i. one (bytes_eq w.name n) i ∷ same_all ws n i)
-  where
-    one : (b : Bool) → (if b then w else w) ≡ w
-    one true = refl
-    one false = refl
+either_same : (b : Bool) (w : Workunit) → (if b then w else w) ≡ w
+either_same true w = refl
+either_same false w = refl
 
 -- no workunit is changed, or each of the name is
 pub changed_if : (b : Bool) (world : World) (n : List ℕ) (change : Workunit → Workunit) → with_named world n (λ w. if b then change w else w) ≡ (if b then with_named world n change else world)
 changed_if true world n change = refl
-changed_if false world n change = ap (λ ws. record world { workunits = ws }) (same_all world.workunits n)
+changed_if false world n change = ap (λ ws. record world { workunits = ws }) ((λ i. map (λ v. either_same (bytes_eq v.name n) v i) world.workunits) ∙ map-id world.workunits)
 
 module _ {Row : Type 0} (rule : Rule Row) where
   pub after_found : (world : World) (row : Row) (o : Option Workunit) → workunit_named world (rule.workunit row) ≡ o
@@ -230,12 +232,7 @@ module _ {Row : Type 0} (rule : Rule Row) where
 -- ---- each in the place of the present one
 
 count_mapped : (q : Workunit → Bool) (f : Workunit → Workunit) → ((w : Workunit) → q (f w) ≡ q w) → (ws : List Workunit) → length (filter q (map f ws)) ≡ length (filter q ws)
-count_mapped q f same [] = refl
-count_mapped q f same (w ∷ ws) = ap (λ b. length (if b then f w ∷ filter q (map f ws) else filter q (map f ws))) (same w) ∙ go (q w) (count_mapped q f same ws)
-  where
-    go : (b : Bool) → length (filter q (map f ws)) ≡ length (filter q ws) → length (if b then f w ∷ filter q (map f ws) else filter q (map f ws)) ≡ length (if b then w ∷ filter q ws else filter q ws)
-    go true again = ap suc again
-    go false again = again
+count_mapped q f same ws = ap (λ vs. length vs) (filter-map q f ws) ∙ length-map (filter (λ w. q (f w)) ws) f ∙ (λ i. length (filter (λ w. same w i) ws))
 
 -- what is found by one test counts for another that it passes
 found_counts : (p q : Workunit → Bool) (ws : List Workunit) (w : Workunit) → find p ws ≡ Some w → q w ≡ true → 1 ≤ length (filter q ws)
@@ -305,33 +302,16 @@ others_found t n (v ∷ vs) off = elim (cases_Bool (v.number == t.number)) [
 -- where names and numbers stand once, both are the same place
 one_place : (t b : Workunit) (ws : List Workunit) → length (filter (λ (v : Workunit). bytes_eq v.name t.name) ws) ≤ 1 → length (filter (λ (v : Workunit). v.number == t.number) ws) ≤ 1
     → workunit_of ws t.name ≡ Some b → t.number ≡ b.number → map (for_number t) ws ≡ map (for_name t) ws
-one_place t b [] names numbers found same = refl
-one_place t b (v ∷ vs) names numbers found same = elim (cases_Bool (bytes_eq v.name t.name)) [
-  | inl is ↦
-      let it : Some v ≡ Some b = rw is at found in
-      let one : v ≡ b = cc in
-      let its : (v.number == t.number) ≡ true = eq-eqb _ _ (ap (λ (u : Workunit). u.number) one ∙ sym same) in
-      let few_names : suc (length (filter (λ (u : Workunit). bytes_eq u.name t.name) vs)) ≤ 1 = rw is at names in
-      let few_numbers : suc (length (filter (λ (u : Workunit). u.number == t.number) vs)) ≤ 1 = rw its at numbers in
-      let by_number : map (for_number t) vs ≡ map (λ u. u) vs = map_none (λ (u : Workunit). u.number == t.number) (for_number t) (λ u. u) vs (omega (arith, few_numbers)) (λ u off. ap (λ b. if b then t else u) off) in
-      let by_name : map (for_name t) vs ≡ map (λ u. u) vs = map_none (λ (u : Workunit). bytes_eq u.name t.name) (for_name t) (λ u. u) vs (omega (arith, few_names)) (λ u off. ap (λ b. if b then t else u) off) in
-      let head : for_number t v ≡ for_name t v = ap (λ b. if b then t else v) its ∙ sym (ap (λ b. if b then t else v) is) in
-      let tail = by_number ∙ sym by_name in
-      (λ i. head i ∷ tail i)
-  | inr not ↦
-      let later : workunit_of vs t.name ≡ Some b = rw not at found in
-      let fewer : length (filter (λ (u : Workunit). bytes_eq u.name t.name) vs) ≤ 1 = rw not at names in
-      elim (cases_Bool (v.number == t.number)) [
-        | inl on ↦
-            let few : suc (length (filter (λ (u : Workunit). u.number == t.number) vs)) ≤ 1 = rw on at numbers in
-            let some = found_counts (λ (u : Workunit). bytes_eq u.name t.name) (λ (u : Workunit). u.number == t.number) vs b later (eq-eqb _ _ (sym same)) in
-            absurd (omega (arith, few, some))
-        | inr off ↦
-            let head : for_number t v ≡ for_name t v = ap (λ b. if b then t else v) off ∙ sym (ap (λ b. if b then t else v) not) in
-            let tail = one_place t b vs fewer (rw off at numbers) later same in
-            (λ i. head i ∷ tail i)
-      ]
-]
+one_place t b ws names numbers found same =
+    let for_both : Workunit → Workunit = λ v. if (v.number == t.number) && bytes_eq v.name t.name then t else v in
+    let its_number : (b.number == t.number) ≡ true = eq-eqb _ _ (sym same) in
+    let its_name : bytes_eq b.name t.name ≡ true = find_passes (λ (v : Workunit). bytes_eq v.name t.name) ws b found in
+    let numbered = found_once (λ (v : Workunit). bytes_eq v.name t.name) (λ (v : Workunit). v.number == t.number) ws b found its_number numbers in
+    map_once (λ (v : Workunit). v.number == t.number) (for_number t) for_both ws b numbers numbered (rw (its_number, its_name) refl) (λ v off. rw off refl)
+    ∙ map_once (λ (v : Workunit). bytes_eq v.name t.name) for_both (for_name t) ws b names found (rw (its_number, its_name) refl) (λ v off. elim (cases_Bool (v.number == t.number)) [
+      | inl on ↦ rw (on, off) refl
+      | inr other ↦ rw (other, off) refl
+    ])
 
 -- the first, and then the others
 left_then : (t : Touch) (ts : List Touch) → touched_named ts t.now.name ≡ None → (v : Workunit) → as_left ts (for_name t.now v) ≡ as_left (t ∷ ts) v
@@ -397,9 +377,12 @@ module _ (world : World) (t : Touch) (ts : List Touch) (names : NamesOnce world)
       each [] = refl
       each (v ∷ vs) = (λ i. left_then t ts new_in v i ∷ each vs i)
 
+-- the changes make this of the world, and may be made where it has classes
+abbrev pub ChangesTo : List Change → World → World → Type 0
+ChangesTo changes world after = (made_all changes world ≡ after) × (KnowsClasses world → AreRight changes world)
+
 -- every touched workunit takes the place of the present one of its number: that makes the world with them
-pub replaced_all : (ts : List Touch) (world : World) → NamesOnce world → NumbersOnce world → AreImages world ts → AreDistinct ts
-    → (made_all (map replaces ts) world ≡ with_touched ts world) × (KnowsClasses world → AreRight (map replaces ts) world)
+pub replaced_all : (ts : List Touch) (world : World) → NamesOnce world → NumbersOnce world → AreImages world ts → AreDistinct ts → ChangesTo (map replaces ts) world (with_touched ts world)
 replaced_all [] world names numbers images distinct = (sym (touched_empty world), λ classed. tt)
 replaced_all (t ∷ ts) world names numbers images distinct =
     let rest = replaced_all ts (with_replaced t.now world) (names_then world t ts names numbers images distinct) (numbers_then world t ts names numbers images distinct)

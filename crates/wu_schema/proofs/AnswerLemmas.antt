@@ -35,8 +35,3 @@ module _ (tree : ℕ) (test project : List Term) (params : Row) where
 module _ (text : List ℕ) (params : Row) (old new : State) (p : Parsed) (q : Query) (names : List Name) (it : CompilesTo old.now.schema text p (Select (alone q) names)) where
   pub shown_answers : (rows : List Row) → Shown text params old new rows → Answers old.now (alone q) params rows
   shown_answers rows h = reads_as text params old new old.now.schema refl (Select (alone q) names) it.is it.plain it.unlisted rows h
-
-  pub row_answers : (row : Row) → QueriesRow text params old new (Ok row) → (tail : List Row) × Answers old.now (alone q) params (row ∷ tail)
-  row_answers row h =
-      let first = first_as text params old new old.now.schema refl (Select (alone q) names) it.is it.plain it.unlisted row h in
-      (first.1.0, record { typed = first.0; answer = first.1.1 })

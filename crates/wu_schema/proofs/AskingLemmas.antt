@@ -163,11 +163,9 @@ module _ (old new : State) (e : Error) where
 
   pub caused : {big : Type 0} → ¬ big → (cause : StoreError) → HasCause old new big cause → fault_of (store_error cause) ≡ Broken → Broke
   caused never kind.OutOfMemory has is = absurd cc
-  caused never kind.Io has is = inl has
-  caused never kind.Corrupt has is = inl has
-  caused never kind.Full has is = inl has
   caused never kind.Broken has is = inr has
   caused never kind.Unstorable has is = absurd (never has)
+  caused never _ has is = inl has
 
   pub not_run_broke : (sql : List ℕ) (params : Row) → IsNotRun old new sql params e → fault_of e ≡ Broken → Broke
   unfolding IsNotRun

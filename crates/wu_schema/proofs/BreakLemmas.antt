@@ -26,7 +26,7 @@ use Rattle.wu_core.specs.declared.fault.Fault.TheVariants.{Broken, NotAProject}
 use Rattle.wu_schema.proofs.AskingLemmas.{caused, fault_told, input_other, not_run_broke, told_other}
 use Rattle.wu_schema.proofs.CreateEffect.{Defines, create_compiles, defined_by, index_low, own_table, sequence_is, understood_free}
 use Rattle.wu_schema.proofs.EffectLemmas.{chosen, passed, same_value}
-use Rattle.wu_schema.proofs.IndexEffect.{DefinesAs, added_grows, all_added_grow, index_compiles, makes_known}
+use Rattle.wu_schema.proofs.IndexEffect.{DefinesAs, all_added_grow, index_compiles}
 use Rattle.wu_schema.specs.Indexes.{NamedIndex, index_at}
 use Rattle.std.proofs.lemmas.Bool.{both_ways}
 use Rattle.sqlite.specs.Steps.{FailsToCommit}
@@ -34,10 +34,10 @@ use Rattle.wu_core.specs.declared.fault.Fault.{Fault}
 use Rattle.wu_schema.specs.Faults.{IsFailure, commit_fault_of}
 use Rattle.wu_schema.proofs.CallLemmas.{begun_part}
 use Rattle.wu_schema.proofs.OneLemmas.{broken_by}
-use Rattle.wu_schema.specs.Calls.{BreaksAfter, BreaksTruly, HasBroken, IsPart, RefusesText, RunsText, StatementFrame}
+use Rattle.wu_schema.specs.Calls.{BreaksAfter, BreaksTruly, HasBroken, IsPart, RefusesText, StatementFrame}
 use Rattle.wu_schema.specs.Made.{HasBareProject, IsUnindexed, MakesAll, Named, class_tables, record_tables, work_tables}
 use Rattle.sqlite_catalog.proofs.StepLemmas.{table_below}
-use Rattle.wu_schema.proofs.CreatedLemmas.{makes_table, project_kept, project_row}
+use Rattle.wu_schema.proofs.CreatedLemmas.{project_kept, project_row}
 use Rattle.wu_schema.proofs.MadeLemmas.{all_then}
 use Rattle.wu_schema.specs.Queue.{HasEmpty, MakesIndexes}
 use Rattle.std.proofs.lemmas.List.{length-append}
@@ -94,12 +94,7 @@ stops (inr more) one next = next more
 
 alter_other : (reason : alter.Refusal) → fault_of (alter_error reason) ≢ Broken
 alter_other (why.Invalid e) is = absurd (input_other e is)
-alter_other why.NameTaken is = absurd cc
-alter_other why.BadName is = absurd cc
-alter_other why.BadKey is = absurd cc
-alter_other why.BadText is = absurd cc
-alter_other why.TooBig is = absurd cc
-alter_other (why.Violates rule) is = absurd cc
+alter_other _ is = absurd cc
 
 makes_other : (text : List ℕ) (db : Database) → ¬ IsLongTable text → (stop : Option Error) → MakesTable text db (Err stop) → IsOther stop
 makes_other text db short None long = short long
@@ -172,10 +167,7 @@ module _ (text : List ℕ) (table : Named) (named : NamedIndex) (d : DefinesAs t
 
 edit_other : (reason : Refusal) → fault_of (edit_error reason) ≢ Broken
 edit_other (rule.Violates constraint) is = absurd cc
-edit_other rule.Mismatch is = absurd cc
-edit_other rule.NoRowid is = absurd cc
-edit_other rule.BadReference is = absurd cc
-edit_other rule.TooDeep is = absurd cc
+edit_other _ is = absurd cc
 
 module _ (schema : Schema) (keys : Keys) (db : Trees) (edit : Edit) (none : works schema keys 0 edit.table.tree (taken_by db edit) edit.news ≡ []) (small : (row : Row) → Has edit.news row → ¬ IsOversized schema edit.table row) where
   never_stops : (next : Trees) (n : ℕ) → ¬ Leads schema keys n next [] (Err None)
@@ -285,23 +277,11 @@ module _ {S : Type 0} (g : Ghosts S) (a b : Transaction S) where
   text_breaks text given broke (Ok x) refused clean = tt
   text_breaks text given broke (Err e) refused clean = text_fails text given e (broke e) refused clean
 
-  pub create_fails : {text name : List ℕ} {table : ℕ → Table} → Defines text name table → (e : Error) → RefusedWith text [] e → Fails e
-  create_fails {text = text} {name = name} {table = table} d e = text_fails text [] e (create_broke text name table d (state g a.conn.now) (state g b.conn.now) e)
-
   pub create_breaks : {T : Type 0} {text name : List ℕ} {table : ℕ → Table} → Defines text name table → (r : Result T Error) → RefusesText g a b r text [] → BreaksAfter g a.conn.now b.conn.now r
   create_breaks {text = text} {name = name} {table = table} d = text_breaks text [] (create_broke text name table d (state g a.conn.now) (state g b.conn.now))
 
-  pub index_fails : {text : List ℕ} {table : Named} {named : NamedIndex} → DefinesAs text table named → HasEmpty table (state g a.conn.now).now → (e : Error) → RefusedWith text [] e → Fails e
-  index_fails {text = text} {table = table} {named = named} d has e = text_fails text [] e (index_broke text table named d has.1 (state g a.conn.now) (state g b.conn.now) has.0 has.2 has.3 e)
-
   pub index_breaks : {T : Type 0} {text : List ℕ} {table : Named} {named : NamedIndex} → DefinesAs text table named → HasEmpty table (state g a.conn.now).now → (r : Result T Error) → RefusesText g a b r text [] → BreaksAfter g a.conn.now b.conn.now r
   index_breaks {text = text} {table = table} {named = named} d has = text_breaks text [] (λ e. index_broke text table named d has.1 (state g a.conn.now) (state g b.conn.now) has.0 has.2 has.3 e)
-
-  -- behind an index the table is empty still
-  pub empty_next : {T : Type 0} {text : List ℕ} {table : Named} {named : NamedIndex} → DefinesAs text table named → (x : T) → RunsText {E = Error} g a b (Ok x) text [] → HasCleanDisk (state g b.conn.now) → HasEmpty table (state g a.conn.now).now → HasEmpty table (state g b.conn.now).now
-  empty_next {text = text} {table = table} {named = named} d x ran clean (at, tree, has, none) =
-      let grows = added_grows (state g a.conn.now).now (state g b.conn.now).now (table.1 tree) named (makes_known {E = Error} g a b d (Ok x) (ran clean) at tree has) in
-      (at, tree, grows.named table.0 at (table.1 tree) has, (grows.keeps.tables (table.1 tree) (has_got _ at (table.1 tree) has.there)).1 ∙ none)
 
 -- ---- the row of a fresh project
 
@@ -356,9 +336,6 @@ project_breaks g a b version (at, tree, has, bare) = text_breaks g a b project_p
 -- the queue that was just made is empty, and so it is behind its indexes
 pub empty_made : (old new : Database) (table : Named) → HasMade old new table → HasEmpty table new
 empty_made old new table made = (length old.schema.tables, next_tree old.schema, made.has, ap (λ n. new.trees n) made.placed ∙ made.empty)
-
-pub just_made : {S T : Type 0} (g : Ghosts S) (a b : Transaction S) {text name : List ℕ} {table : ℕ → Table} → Defines text name table → (x : T) → RunsText {E = Error} g a b (Ok x) text [] → HasCleanDisk (state g b.conn.now) → HasEmpty (name, table) (state g b.conn.now).now
-just_made g a b {name = name} {table = table} d x ran clean = empty_made (state g a.conn.now).now (state g b.conn.now).now (name, table) (makes_table {E = Error} g a b d (Ok x) (ran clean))
 
 pub empty_behind : (old new : Database) (table : Named) (named : List NamedIndex) → MakesIndexes table named old new → HasEmpty table old → HasEmpty table new
 empty_behind old new table named makes (at, tree, has, none) =

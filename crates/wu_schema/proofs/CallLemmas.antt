@@ -1,5 +1,5 @@
 -- From call to call inside a transaction.
-use Rattle.wu_schema.proofs.Words.{Err, Error, Executes, Ghosts, HasCleanDisk, HasRun, Held, IfErr, IsBack, IsErrAnd, IsNotRun, IsPart, IsTrue, IsUnchanged, IsUndone, List, NotAProject, Ok, OnErr, OnOk, Result, Row, State, StoreError, Survives, Transaction, Trees, ap, arith, cases_Bool, false, fault_of, inl, inr, refl, state, store_error, subst, sym, true, ℕ, ◌∙◌, ◌≡◌, ◌≢◌}
+use Rattle.wu_schema.proofs.Words.{Database, Err, Error, Executes, Ghosts, HasCleanDisk, HasRun, Held, IfErr, IsBack, IsErrAnd, IsNotRun, IsPart, IsTrue, IsUnchanged, IsUndone, List, NotAProject, Ok, OnErr, OnOk, Result, Row, State, StoreError, Survives, Transaction, Trees, ap, arith, cases_Bool, false, fault_of, inl, inr, refl, state, store_error, subst, sym, true, ℕ, ◌∙◌, ◌≡◌, ◌≢◌}
 use Rattle.sqlite.specs.State.{IsRolledBack, ExecutesInside}
 use Rattle.sqlite.proofs.StateLemmas.{survives_then}
 use Rattle.sqlite.proofs.InsideLemmas.{inside_keeps, keeps_then}
@@ -7,7 +7,7 @@ use Rattle.sqlite.proofs.Callers.{survives_begin}
 use Rattle.sqlite_trees.specs.declared.error.StoreError.TheVariants as kind
 use Rattle.sqlite.specs.declared.error.Error.TheVariants.{SqliteFailure}
 use Rattle.sqlite.specs.declared.error.ErrorCode.TheVariants.{TransactionState}
-use Rattle.wu_schema.specs.Calls.{LeavesOnly, RefusesText, StatementFrame}
+use Rattle.wu_schema.specs.Calls.{Does, LeavesOnly, RefusesText, StatementFrame}
 
 pub part_then : (a b c : State) → IsPart a b → IsPart b c → IsPart a c
 part_then a b c one two = record {
@@ -108,11 +108,7 @@ back_not_run old new sql params e (inr failed) = let back = failed.3 in record {
 
 never_refused : (cause : StoreError) → fault_of (store_error cause) ≢ NotAProject
 never_refused kind.OutOfMemory is = absurd cc
-never_refused kind.Io is = absurd cc
-never_refused kind.Corrupt is = absurd cc
-never_refused kind.Full is = absurd cc
-never_refused kind.Broken is = absurd cc
-never_refused kind.Unstorable is = absurd cc
+never_refused _ is = absurd cc
 
 -- a refusal that is no failure of the store leaves the connection open
 pub serves_after : (old new : State) (sql : List ℕ) (params : Row) (e : Error) → IsNotRun old new sql params e → fault_of e ≡ NotAProject → IsUnchanged old new
@@ -131,6 +127,11 @@ ok_on (Err e) P Q f h = tt
 pub ok_both : {T E : Type 0} (r : Result T E) (P Q R : Type 0) → (P → Q → R) → OnOk r P → OnOk r Q → OnOk r R
 ok_both (Ok x) P Q R f h k = f h k
 ok_both (Err e) P Q R f h k = tt
+
+-- what was done, and what is done then
+pub does_then : {S U E : Type 0} (g : Ghosts S) (a b c : Transaction S) (r : Result U E) {First Second Both : Database → Database → Type 0} → ((old mid new : Database) → First old mid → Second mid new → Both old new)
+    → (HasCleanDisk (state g b.conn.now) → First (state g a.conn.now).now (state g b.conn.now).now) → IsPart (state g b.conn.now) (state g c.conn.now) → Does g b c r Second → Does g a c r Both
+does_then g a b c r both one part two clean = ok_on r _ _ (both _ _ _ (one (omega (arith, part.survives.clean, clean)))) (two clean)
 
 -- with these parameters
 pub ran_as : {T E P : Type 0} (old new : State) (sql : List ℕ) (given params : Row) → given ≡ params → (r : Result T E) → OnOk r (HasRun sql given old new) → ((count : ℕ) → Executes sql params old new (Ok count) → P) → OnOk r P

@@ -132,10 +132,10 @@ added_then old mid new table [] two same h = subst (λ d. AddsIndexes d new tabl
 added_then old mid new table (named ∷ one) two h k = (h.0, h.1, added_then h.0 mid new table one two h.2 k)
 
 -- where its name finds the table still
-pub index_then : (table : Named) (named : NamedIndex) (more : List NamedIndex) (old mid new : Database) → MakesIndex table named old mid → MakesIndexes table more mid new → MakesIndexes table (named ∷ more) old new
-index_then table named more old mid new one rest at tree has =
-    let first = one at tree has in
-    (mid, first, rest at tree ((added_grows old mid (table.1 tree) named first).named table.0 at (table.1 tree) has))
+pub indexes_both : (table : Named) (one two : List NamedIndex) (old mid new : Database) → MakesIndexes table one old mid → MakesIndexes table two mid new → MakesIndexes table (one ++ two) old new
+indexes_both table one two old mid new first second at tree has =
+    let made = first at tree has in
+    added_then old mid new (table.1 tree) one two made (second at tree ((all_added_grow old mid (table.1 tree) one made).named table.0 at (table.1 tree) has))
 
 pub last_index : (table : Named) (named : NamedIndex) (old new : Database) → MakesIndex table named old new → MakesIndexes table (named ∷ []) old new
 last_index table named old new one at tree has = (new, one at tree has, refl)

@@ -12,7 +12,6 @@ pub mod SelectLemmas
 pub mod SetTexts
 pub mod CountTexts
 pub mod CountAnswers
-pub mod GroupLemmas
 pub mod AnswerLemmas
 pub mod ReadLemmas
 pub mod ReadingLemmas

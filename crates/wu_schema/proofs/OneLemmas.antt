@@ -40,11 +40,9 @@ never_no_statement e (inr (c, is, inr (inr (timed, told)))) = absurd (timed (sub
 
 pub broken_by : (old new : State) (cause : StoreError) → commit_fault_of (store_error cause) ≡ Broken → HasCause old new ⊥ cause → MoreFaults old.faults new.faults ⊎ (old.is_open ≡ false)
 broken_by old new kind.OutOfMemory is has = absurd cc
-broken_by old new kind.Io is has = inl has
-broken_by old new kind.Corrupt is has = inl has
-broken_by old new kind.Full is has = inl has
 broken_by old new kind.Broken is has = inr has
 broken_by old new kind.Unstorable is has = absurd has
+broken_by old new _ is has = inl has
 
 -- so the disk failed, or the connection was not open
 pub one_breaks : (old new : State) (e : Error) → IsNotRun old new one_text [] e → commit_fault_of e ≡ Broken → MoreFaults old.faults new.faults ⊎ (old.is_open ≡ false)

@@ -1,6 +1,6 @@
 -- What leaves the tables of other programs as they are.
-use Rattle.wu_schema.proofs.Words.{Database, Enforced, Executes, Has, HasNamed, HasTable, Insert, IsCalm, Ok, Row, Schema, State, Table, Values, [], all_has, ap, codes, inl, inr, length, mode_of, refl, runs_as, statement_of, subst, sym, understood, ℕ, ◌/◌, ◌∙◌, ◌∷◌, ◌≡◌, ◌≢◌}
-use Rattle.std.specs.Prelude.{List, ◌++◌}
+use Rattle.wu_schema.proofs.Words.{Database, Enforced, Executes, Has, HasNamed, Insert, IsCalm, Ok, Row, Schema, State, Table, Values, [], all_has, ap, codes, inl, inr, length, mode_of, refl, runs_as, statement_of, subst, sym, understood, ℕ, ◌∙◌, ◌∷◌, ◌≡◌, ◌≢◌}
+use Rattle.std.specs.Prelude.{List}
 use Rattle.wu_schema.specs.Made.{KeepsOthers, Named}
 use Rattle.wu_schema.specs.Others.{AreThere, IsOthers, SparesOthers, SparesWith, table_names}
 use Rattle.wu_schema.proofs.CalmLemmas.{calm_bare}

@@ -3,7 +3,7 @@ use Rattle.wu_schema.proofs.Words.{AllByRecursion, [], ◌∷◌, all_from, all_
 use Rattle.wu_core.specs.declared.marks.Marks.{Marks}
 use Rattle.wu_core.specs.World.{empty_world}
 use Rattle.wu_schema.specs.Fresh.{MakesProject}
-use Rattle.wu_schema.specs.Indexes.{IsIndexed, NamedIndex, mark_indexes, moment_indexes, queue_indexes}
+use Rattle.wu_schema.specs.Indexes.{IsIndexed, NamedIndex, queue_indexes}
 use Rattle.wu_schema.specs.Made.{AreFree, MakesEmpty, names_of, project_tables}
 use Rattle.wu_schema.specs.Queue.{AddsIndexes, HasQueue, MakesIndexes, MakesQueue, queue_names, queue_table}
 use Rattle.wu_schema.specs.Stored.{stored_marks}
@@ -15,20 +15,18 @@ use Rattle.wu_schema.proofs.BesideLemmas.{IsBeside, beside_apart, beside_calm, b
 use Rattle.wu_schema.proofs.MadeLemmas.{made_grows, no_list, still_made}
 use Rattle.wu_schema.proofs.StandsOver.{Grows, grows_both, stands_over, still_named}
 use Rattle.wu_schema.proofs.FreeLemmas.{all_before, all_both}
-use Rattle.wu_schema.proofs.IndexEffect.{added_grows, added_then, all_added_grow, all_added_sound, all_indexed, only_indexed}
+use Rattle.wu_schema.proofs.IndexEffect.{added_grows, all_added_grow, all_added_sound, all_indexed, only_indexed}
 
 -- the names of indexes that were added one after another
 added_free : (old new : Database) (table : Table) (named : List NamedIndex) → AddsIndexes old new table named → AreFree old.schema (map (λ one. one.0) named)
 added_free old new table [] same = tt
 added_free old new table (one ∷ more) h = (h.1.free, all_before old h.0 (added_grows old h.0 table one h.1).keeps (map (λ named. named.0) more) (added_free h.0 new table more h.2))
 
-pub queue_is_made : (old first next new : Database) → HasMade old first queue_table → MakesIndexes queue_table mark_indexes first next → MakesIndexes queue_table moment_indexes next new → MakesQueue old new
-queue_is_made old first next new made marks moments =
+pub queue_is_made : (old first new : Database) → HasMade old first queue_table → MakesIndexes queue_table queue_indexes first new → MakesQueue old new
+queue_is_made old first new made indexed =
     let tree = next_tree old.schema in
     let table = queue_at tree in
-    let one = marks (length old.schema.tables) tree made.has in
-    let two = moments (length old.schema.tables) tree ((all_added_grow first next table mark_indexes one).named queue_table.0 (length old.schema.tables) table made.has) in
-    let all : AddsIndexes first new table queue_indexes = added_then first next new table mark_indexes moment_indexes one two in
+    let all = indexed (length old.schema.tables) tree made.has in
     let later : Grows first new = all_added_grow first new table queue_indexes all in
     let grows : Grows old new = grows_both old first new (made_grows old first queue_table made) later in
     let is = still_made old first new queue_table made later in

@@ -39,11 +39,6 @@ module _ (text : List ℕ) (it : IsSelect text) (params : Row) (old new : State)
       let read = subst (λ r. ShowsRows old new text h.0 (timed params h.0.formats h.1.now) rows r) none h.2 in
       read.3
 
-  pub row_unchanged : (row : Row) → QueriesRow text params old new (Ok row) → IsUnchanged old new
-  unfolding QueriesRow
-  row_unchanged row (inl h) = h.1
-  row_unchanged row (inr h) = shown_unchanged h.0 h.1
-
   pub failed_back : (e : Error) → FailsToQuery text params old new e → IsBack old new
   unfolding FailsToQuery
   failed_back e (inl h) = back_not_run old new text params e h
@@ -51,11 +46,6 @@ module _ (text : List ℕ) (it : IsSelect text) (params : Row) (old new : State)
       let none = shows_none old.now.schema text it h.0 h.1.is in
       let failed = subst (λ r. FailsToShow old new text h.0 (timed params h.0.formats h.1.now) e r) none h.2 in
       back_unchanged old new failed.3
-
-  pub row_failed_back : (e : Error) → QueriesRow text params old new (Err e) → IsBack old new
-  unfolding QueriesRow
-  row_failed_back e (inl h) = failed_back e h
-  row_failed_back e (inr h) = back_unchanged old new (shown_unchanged [] h.1)
 
   -- nothing is committed
   pub reads_survive : Survives old new (CommitsShowing text params old) → Survives old new (λ _. ⊥)
@@ -92,11 +82,3 @@ all_read g text it params old new mode survives r ok err = record {
   back = λ clean. err_on r _ _ (λ e h. failed_back text it params (state g old) (state g new) e h) (err clean);
   crash = reads_survive text it params (state g old) (state g new) survives;
 }
-
-pub row_ok : (text : List ℕ) (params : Row) (old new : State) (r : Result Row Error) (Q : Row → Type 0) → ((row : Row) → QueriesRow text params old new (Ok row) → Q row) → QueriesRow text params old new r → IfOk r Q
-row_ok text params old new (Ok row) Q f h = f row h
-row_ok text params old new (Err e) Q f h = tt
-
-pub row_err : (text : List ℕ) (params : Row) (old new : State) (r : Result Row Error) (Q : Error → Type 0) → ((e : Error) → QueriesRow text params old new (Err e) → Q e) → QueriesRow text params old new r → IfErr r Q
-row_err text params old new (Ok row) Q f h = tt
-row_err text params old new (Err e) Q f h = f e h

@@ -32,6 +32,10 @@ pub unread : {T C : Type 0} (stored_as : T → C) (IsValue : T → Type 0) (stor
 unread stored_as IsValue stored fault (inl memory) = record { value = tt; found = λ value is same. inr (ap (λ f. Err f) memory); refused = inl memory }
 unread stored_as IsValue stored fault (inr none) = record { value = tt; found = λ value is same. absurd (none.1 value is same); refused = inr none.0 }
 
+-- what is stored as one value alone is read as it
+pub read_as : {T C : Type 0} {stored_as : T → C} {IsValue : T → Type 0} {stored : C} {read : T} → (stored ≡ stored_as read) × IsValue read → ((value : T) → IsValue value → stored ≡ stored_as value → read ≡ value) → Restores stored_as IsValue stored (Ok read)
+read_as value only = record { value = value; found = λ other is same. inl (ap (λ v. Ok v) (only other is same)); refused = tt }
+
 -- the number of a code is that of what it is decoded as, and else of nothing
 pub code_restored : {T : Type 0} (code_of : T → ℕ) (v : Value) (n : ℕ) → v ≡ number n → (o : Option T) → Decodes code_of n o → (r : Result T Fault) → r ≡ ok_or o NotAProject → Restores (λ (t : T). number (code_of t)) (λ _. ⊤) v r
 code_restored {T} code_of v n is (Some t) decodes r read = subst (λ q. Restores (λ (t : T). number (code_of t)) (λ _. ⊤) v q) (sym read) (record {
@@ -138,11 +142,8 @@ module _ (row : Row) (n : ℕ) (name : List ℕ) (params : Parameters) (input : 
       → Restores parameter_cells IsParameters (columns row 2 7) (Ok params) → Restores Blob IsInput (column row 9) (Ok input)
       → Restores progress_cells IsProgress (columns row 10 5) (Ok progress)
       → Restores workunit_row IsStoredWorkunit row (Ok read)
-  workunit_read long number_is name_is params_are input_is progress_is = record {
-    value = (stored, record { name = name_is.value.1; parameters = params_are.value.1; input = input_is.value.1; canonical = progress_is.value.1.canonical; stamped = progress_is.value.1.stamped; bare = refl; classless = refl });
-    found = λ w is same. inl (ap (λ w. Ok w) (only w is same));
-    refused = tt;
-  }
+  workunit_read long number_is name_is params_are input_is progress_is =
+      read_as (stored, record { name = name_is.value.1; parameters = params_are.value.1; input = input_is.value.1; canonical = progress_is.value.1.canonical; stamped = progress_is.value.1.stamped; bare = refl; classless = refl }) only
     where
       whole : column row 0 ∷ column row 1 ∷ columns row 2 7 ++ (column row 9 ∷ columns row 10 5) ≡ row
       whole = subst (λ k. map (column row) (range_with_len 0 k) ≡ row) long (as_columns row)
@@ -187,8 +188,7 @@ same_verdicts (u ∷ a) (v ∷ b) is =
     rw (same, same_verdicts a b rest) refl
 
 pub verdicts_restored : (kind : ImportKind) (digits verdicts : List ℕ) → verdict_digits verdicts ≡ digits → AreVerdicts kind verdicts → Restores verdict_digits (AreVerdicts kind) digits (Ok verdicts)
-verdicts_restored kind digits verdicts is are =
-    record { value = (sym is, are); found = λ others of_kind same. inl (ap (λ v. Ok v) (same_verdicts verdicts others (is ∙ same))); refused = tt }
+verdicts_restored kind digits verdicts is are = read_as (sym is, are) (λ others of_kind same. same_verdicts verdicts others (is ∙ same))
 
 -- the states and the moments of an instance
 abbrev states_of : Instance → States
@@ -207,11 +207,7 @@ moments_unread row = part_unread moments_of row 5 3 bare_instance_row moment_cel
 pub states_read : (row : Row) (a : ServerState) (b : Outcome) (d : ValidateState) (e : FileDelete) → Restores server_state_cell (λ _. ⊤) (column row 0) (Ok a) → Restores outcome_cell (λ _. ⊤) (column row 1) (Ok b)
     → Restores validate_state_cell (λ _. ⊤) (column row 2) (Ok d) → Restores file_delete_cell (λ _. ⊤) (column row 3) (Ok e)
     → Restores state_cells (λ _. ⊤) (columns row 0 4) (Ok (record { server_state = a; outcome = b; validate_state = d; file_delete = e }))
-states_read row a b d e first second third fourth = record {
-  value = ((λ i. first.value.0 i ∷ second.value.0 i ∷ third.value.0 i ∷ fourth.value.0 i ∷ []), tt);
-  found = λ s is same. inl (ap (λ s. Ok s) (only s same));
-  refused = tt;
-}
+states_read row a b d e first second third fourth = read_as ((λ i. first.value.0 i ∷ second.value.0 i ∷ third.value.0 i ∷ fourth.value.0 i ∷ []), tt) (λ s is. only s)
   where
     only : (s : States) → columns row 0 4 ≡ state_cells s → ◌≡◌ {A = States} (record { server_state = a; outcome = b; validate_state = d; file_delete = e }) s
     only s same =
@@ -248,14 +244,10 @@ module _ (row : Row) (states : States) (host : Option (List ℕ)) (moments : Mom
 
     -- eight columns that read as these are those of this instance alone, where it is well formed
     pub formed_read : IsInstance read_instance → Restores bare_instance_row IsBareInstance (columns row 0 8) (Ok read_instance)
-    formed_read formed = record {
-      value = (
-        joined_three _ _ _ _ _ _ states_are.value.0 host_is.value.0 moments_are.value.0,
-        record { stored = record { values = record { host = host_is.value.1; moments = moments_are.value.1; output = subst IsOutput (sym empty) (omega arith) }; formed = formed }; bare = empty },
-      );
-      found = λ i is same. inl (ap (λ i. Ok i) (only_read i is same));
-      refused = tt;
-    }
+    formed_read formed = read_as (
+      joined_three _ _ _ _ _ _ states_are.value.0 host_is.value.0 moments_are.value.0,
+      record { stored = record { values = record { host = host_is.value.1; moments = moments_are.value.1; output = subst IsOutput (sym empty) (omega arith) }; formed = formed }; bare = empty },
+    ) only_read
 
     -- and where it is not, those of none
     pub unformed_read : (IsInstance read_instance → ⊥) → Restores bare_instance_row IsBareInstance (columns row 0 8) (Err NotAProject)
@@ -281,15 +273,10 @@ module _ (row : Row) where
 
   -- a row whose columns read as these is that of this instance alone
   pub instance_read : (i : Instance) (output : List ℕ) → length row ≡ 9 → Restores bare_instance_row IsBareInstance (columns row 0 8) (Ok i) → Restores Blob IsOutput (column row 8) (Ok output) → Restores instance_row IsStoredInstance row (Ok (with_output i output))
-  instance_read i output long instance_is output_is = record {
-    value = (
-      sym (whole_row 9 row long) ∙ (λ k. instance_is.value.0 k ++ output_is.value.0 k ∷ []),
-      let is = instance_is.value.1.stored in
-          record { values = record { host = is.values.host; moments = is.values.moments; output = output_is.value.1 }; formed = same_formed i output is.formed },
-    );
-    found = λ j is same. inl (ap (λ j. Ok j) (only j is same));
-    refused = tt;
-  }
+  instance_read i output long instance_is output_is = read_as (
+    sym (whole_row 9 row long) ∙ (λ k. instance_is.value.0 k ++ output_is.value.0 k ∷ []),
+    let is = instance_is.value.1.stored in record { values = record { host = is.values.host; moments = is.values.moments; output = output_is.value.1 }; formed = same_formed i output is.formed },
+  ) only
     where
       only : (j : Instance) → IsStoredInstance j → row ≡ instance_row j → with_output i output ≡ j
       only j is same =
@@ -307,11 +294,8 @@ module _ (n : ℕ) (name : List ℕ) (mask : ErrorMask) (canonical : Option ℕ)
   pub archived_cells_read : (u v w x y z : Value) → Restores number (λ _. ⊤) u (Ok n) → Restores Text IsName v (Ok name) → Restores mask_cell (λ _. ⊤) w (Ok mask) → Restores number_or_null IsPlace x (Ok canonical)
       → Restores Blob IsOutput y (Ok output) → Restores number (λ seconds. seconds ≤ last_moment) z (Ok done_at)
       → Restores archived_cells IsStoredArchived (u ∷ v ∷ w ∷ x ∷ y ∷ z ∷ []) (Ok read_archived)
-  archived_cells_read u v w x y z number_is name_is mask_is canonical_is output_is done_is = record {
-    value = (stored, record { name = name_is.value.1; canonical = canonical_is.value.1; output = output_is.value.1; done_at = done_is.value.1 });
-    found = λ a is same. inl (ap (λ a. Ok a) (only a is same));
-    refused = tt;
-  }
+  archived_cells_read u v w x y z number_is name_is mask_is canonical_is output_is done_is =
+      read_as (stored, record { name = name_is.value.1; canonical = canonical_is.value.1; output = output_is.value.1; done_at = done_is.value.1 }) only
     where
       stored : u ∷ v ∷ w ∷ x ∷ y ∷ z ∷ [] ≡ archived_cells read_archived
       stored = λ i. number_is.value.0 i ∷ name_is.value.0 i ∷ mask_is.value.0 i ∷ canonical_is.value.0 i ∷ output_is.value.0 i ∷ done_is.value.0 i ∷ []
@@ -332,11 +316,8 @@ module _ (n : ℕ) (name : List ℕ) (mask : ErrorMask) (canonical : Option ℕ)
 pub import_row_read : (kind : ImportKind) (row : Row) (template content verdicts : List ℕ) (first : ℕ) → length row ≡ 4 → Restores Blob (λ _. ⊤) (column row 0) (Ok template) → Restores Blob (λ _. ⊤) (column row 1) (Ok content)
     → Restores number (λ _. ⊤) (column row 2) (Ok first) → Restores verdicts_cell (AreVerdicts kind) (column row 3) (Ok verdicts)
     → Restores stored_import_row (IsStoredImport kind) row (Ok (record { template = template; content = content; first_number = first; verdicts = verdicts }))
-import_row_read kind row template content verdicts first long template_is content_is first_is verdicts_are = record {
-  value = (sym whole ∙ (λ i. template_is.value.0 i ∷ content_is.value.0 i ∷ first_is.value.0 i ∷ verdicts_are.value.0 i ∷ []), verdicts_are.value.1);
-  found = λ s is same. inl (ap (λ s. Ok s) (only s is same));
-  refused = tt;
-}
+import_row_read kind row template content verdicts first long template_is content_is first_is verdicts_are =
+    read_as (sym whole ∙ (λ i. template_is.value.0 i ∷ content_is.value.0 i ∷ first_is.value.0 i ∷ verdicts_are.value.0 i ∷ []), verdicts_are.value.1) only
   where
     whole : column row 0 ∷ column row 1 ∷ column row 2 ∷ column row 3 ∷ [] ≡ row
     whole = subst (λ k. map (column row) (range_with_len 0 k) ≡ row) long (as_columns row)

@@ -23,10 +23,7 @@ one_test false = refl
 
 pub int_value : (v : Value) → IsTrue (is_int v) → (id : ℤ) × (v ≡ Int id)
 int_value (Int n) h = (n, refl)
-int_value Null h = absurd (cc)
-int_value (Real x) h = absurd (cc)
-int_value (Text t) h = absurd (cc)
-int_value (Blob b) h = absurd (cc)
+int_value _ h = absurd (cc)
 
 pub childless : (schema : Schema) (t : Table) → OwnsTree schema t → t.references ≡ [] → IsChildless schema Enforced t.tree
 childless schema t own none u has is = ap (λ (x : Table). x.references) (own u has is) ∙ none

@@ -140,7 +140,3 @@ pub same_database : (old new : Database) → IsDatabase old → IsDatabase new �
 same_database old new p q same =
     let listed : Lists (old.trees catalog_tree) new.schema = subst (λ (t : Trees). Lists (t catalog_tree) new.schema) same q.lists in
     ap₂ (λ (s : Schema) (t : Trees). let d : Database = record { schema = s; trees = t } in d) (lists_once (old.trees catalog_tree) new.schema old.schema listed p.lists) same
-
--- so a rollback or an open that finds the same trees finds the same world
-pub stands_again : (old new : Database) (world : World) → Refines old world → IsDatabase new → new.trees ≡ old.trees → Refines new world
-stands_again old new world s sound same = subst (λ d. Refines d world) (sym (same_database old new s.sound sound same)) s

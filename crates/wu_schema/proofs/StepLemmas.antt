@@ -1,13 +1,14 @@
 -- One statement after another inside a transaction.
-use Rattle.wu_schema.proofs.Words.{Err, Ghosts, IsErrAnd, List, Ok, Result, Table, Transaction, [], arith, refl, state, ℕ, ◌∙◌, ◌∷◌}
+use Rattle.wu_schema.proofs.Words.{Database, Err, Error, Ghosts, IsErrAnd, List, Ok, Result, Table, Transaction, [], arith, refl, state, ℕ, ⊤, ◌++◌, ◌∙◌, ◌∷◌, ◌≡◌}
+use Rattle.wu_schema.proofs.BreakLemmas.{breaks_on, breaks_then, create_breaks, empty_behind, index_breaks}
 use Rattle.wu_schema.proofs.CallLemmas.{never_ok, ok_on, part_then}
 use Rattle.wu_schema.proofs.CreateEffect.{Defines}
 use Rattle.wu_schema.proofs.CreatedLemmas.{makes_table}
-use Rattle.wu_schema.proofs.IndexEffect.{DefinesAs, index_then, last_index, makes_known}
-use Rattle.wu_schema.specs.Calls.{Does, RunsText, StatementFrame}
+use Rattle.wu_schema.proofs.IndexEffect.{DefinesAs, indexes_both, last_index, makes_known}
+use Rattle.wu_schema.specs.Calls.{BreaksAfter, BreaksOver, Does, RefusesText, RunsText, StatementFrame}
 use Rattle.wu_schema.specs.Indexes.{NamedIndex}
-use Rattle.wu_schema.specs.Made.{MakesTables, Named}
-use Rattle.wu_schema.specs.Queue.{MakesIndexes}
+use Rattle.wu_schema.specs.Made.{MakesTable, MakesTables, Named}
+use Rattle.wu_schema.specs.Queue.{HasEmpty, MakesIndexes}
 
 module _ {S : Type 0} (g : Ghosts S) (a b : Transaction S) where
   -- what was done, and what was done then
@@ -22,18 +23,53 @@ module _ {S : Type 0} (g : Ghosts S) (a b : Transaction S) where
   pub frame_refused : {T U E : Type 0} (e : E) → StatementFrame {T = T} g a b (Err e) → (r : Result U E) (Q : E → Type 0) → IsErrAnd r Q → StatementFrame g a b r
   frame_refused e one r Q is = record { same_reference = one.same_reference; part = one.part; inside = λ clean. never_ok r _ Q is }
 
-  -- the last of these tables is made
-  pub tables_last : {T E : Type 0} {text name : List ℕ} {table : ℕ → Table} → Defines text name table → (r : Result T E) → RunsText g a b r text [] → Does g a b r (MakesTables ((name, table) ∷ []))
-  tables_last {table = table} made r ran clean = ok_on r _ _ (λ it. ((state g b.conn.now).now, it, refl)) (makes_table g a b made r (ran clean))
+-- ---- what a call in a transaction makes, and that its error over such a database tells of the disk
 
-  -- one of them, and the others then
-  pub tables_then : {T U E : Type 0} (c : Transaction S) {text name : List ℕ} {table : ℕ → Table} (more : List Named) → Defines text name table → (x : T) → RunsText {E = E} g a b (Ok x) text [] → (r : Result U E) → StatementFrame g b c r → Does g b c r (MakesTables more) → Does g a c r (MakesTables ((name, table) ∷ more))
-  tables_then {E = E} c more made x ran r writes then clean = ok_on r _ _ (λ it. ((state g b.conn.now).now, makes_table {E = E} g a b made (Ok x) (ran (omega (arith, writes.part.survives.clean, clean))), it)) (then clean)
+pub record Making {S T : Type 0} (g : Ghosts S) (a b : Transaction S) (r : Result T Error) (Makes : Database → Database → Type 0) (Over : Database → Type 0) : Type 0 where
+  pub writes : StatementFrame g a b r
+  pub makes : Does g a b r Makes
+  pub breaks : BreaksOver g a.conn.now b.conn.now r Over
 
-  -- the last of these indexes is made
-  pub indexes_last : {T E : Type 0} {text : List ℕ} {table : Named} {named : NamedIndex} → DefinesAs text table named → (r : Result T E) → RunsText g a b r text [] → Does g a b r (MakesIndexes table (named ∷ []))
-  indexes_last {table = table} {named = named} made r ran clean = ok_on r _ _ (last_index table named (state g a.conn.now).now (state g b.conn.now).now) (makes_known g a b made r (ran clean))
+-- this is made, and that then
+abbrev pub Then : (Database → Database → Type 0) → (Database → Database → Type 0) → Database → Database → Type 0
+Then First Second old new = (mid : Database) × First old mid × Second mid new
 
-  -- one of them, and the others then
-  pub indexes_then : {T U E : Type 0} (c : Transaction S) {text : List ℕ} {table : Named} {named : NamedIndex} (more : List NamedIndex) → DefinesAs text table named → (x : T) → RunsText {E = E} g a b (Ok x) text [] → (r : Result U E) → StatementFrame g b c r → Does g b c r (MakesIndexes table more) → Does g a c r (MakesIndexes table (named ∷ more))
-  indexes_then {E = E} c {table = table} {named = named} more made x ran r writes then clean = ok_on r _ _ (index_then table named more (state g a.conn.now).now (state g b.conn.now).now (state g c.conn.now).now (makes_known {E = E} g a b made (Ok x) (ran (omega (arith, writes.part.survives.clean, clean))))) (then clean)
+module _ {S : Type 0} {g : Ghosts S} {a b : Transaction S} {Over : Database → Type 0} where
+  -- a refusal that is handed on
+  pub stopped : {T U : Type 0} {Makes : Database → Database → Type 0} {e : Error} (Others : Database → Database → Type 0) → Making {T = T} g a b (Err e) Makes Over → (r : Result U Error) → IsErrAnd r (λ d. d ≡ e) → Making g a b r Others Over
+  stopped {e = e} Others one r is = record { writes = frame_refused g a b e one.writes r _ is; makes = λ clean. never_ok r _ _ is; breaks = λ over. breaks_on g a b e (one.breaks over) r is }
+
+  -- what was made, and what is made then
+  pub made_then : {T U : Type 0} {c : Transaction S} {First Second : Database → Database → Type 0} {Next : Database → Type 0} {x : T} {r : Result U Error} → ((old mid : Database) → First old mid → Over old → Next mid) → Making g a b (Ok x) First Over → Making g b c r Second Next → Making g a c r (Then First Second) Over
+  made_then {c = c} {x = x} {r = r} leads one two = record {
+    writes = frame_then g a b c x one.writes r two.writes;
+    makes = λ clean. ok_on r _ _ (λ it. ((state g b.conn.now).now, one.makes (omega (arith, clean, two.writes.part.survives.clean)), it)) (two.makes clean);
+    breaks = λ over clean. breaks_then g a b c x one.writes r two.writes (two.breaks (leads _ _ (one.makes (omega (arith, clean, two.writes.part.survives.clean))) over)) clean;
+  }
+
+  -- in other words
+  pub made_as : {T : Type 0} {Makes Others : Database → Database → Type 0} {r : Result T Error} → ((old new : Database) → Makes old new → Others old new) → Making g a b r Makes Over → Making g a b r Others Over
+  made_as {r = r} is it = record { writes = it.writes; makes = λ clean. ok_on r _ _ (is _ _) (it.makes clean); breaks = it.breaks }
+
+  -- the last of some tables
+  pub last_one : {T : Type 0} {r : Result T Error} {named : Named} → Making g a b r (MakesTable named) Over → Making g a b r (MakesTables (named ∷ [])) Over
+  last_one = made_as (λ old new it. (new, it, refl))
+
+module _ {S : Type 0} {g : Ghosts S} {a b : Transaction S} where
+  -- a call that has these clauses
+  pub making : {T : Type 0} {r : Result T Error} (Makes : Database → Database → Type 0) (Over : Database → Type 0) → StatementFrame g a b r → Does g a b r Makes → BreaksAfter g a.conn.now b.conn.now r → Making g a b r Makes Over
+  making Makes Over writes makes breaks = record { writes = writes; makes = makes; breaks = λ over. breaks }
+
+  -- a text that makes a table, whatever is there
+  pub makes_one : {T : Type 0} {r : Result T Error} {text name : List ℕ} {table : ℕ → Table} → Defines text name table → StatementFrame g a b r → RunsText g a b r text [] → RefusesText g a b r text [] → Making g a b r (MakesTable (name, table)) (λ _. ⊤)
+  makes_one {r = r} {name = name} {table = table} made writes ran refused = making (MakesTable (name, table)) (λ _. ⊤) writes (λ clean. makes_table g a b made r (ran clean)) (create_breaks g a b made r refused)
+
+module _ {S : Type 0} {g : Ghosts S} {a b : Transaction S} {table : Named} where
+  -- a text that makes an index on a table with no row
+  pub indexes_one : {T : Type 0} {r : Result T Error} {text : List ℕ} {named : NamedIndex} → DefinesAs text table named → StatementFrame g a b r → RunsText g a b r text [] → RefusesText g a b r text [] → Making g a b r (MakesIndexes table (named ∷ [])) (HasEmpty table)
+  indexes_one {r = r} {named = named} made writes ran refused =
+      record { writes = writes; makes = λ clean. ok_on r _ _ (last_index table named _ _) (makes_known g a b made r (ran clean)); breaks = λ empty. index_breaks g a b made empty r refused }
+
+  -- more of them then
+  pub indexes_then : {T U : Type 0} {c : Transaction S} {x : T} {r : Result U Error} (one two : List NamedIndex) → Making g a b (Ok x) (MakesIndexes table one) (HasEmpty table) → Making g b c r (MakesIndexes table two) (HasEmpty table) → Making g a c r (MakesIndexes table (one ++ two)) (HasEmpty table)
+  indexes_then one two first second = made_as (λ old new it. indexes_both table one two old it.0 new it.1 it.2) (made_then (λ old mid. empty_behind old mid table one) first second)

@@ -9,7 +9,7 @@ use Rattle.sqlite.specs.State.{Fails, IsNoStatement}
 use Rattle.sqlite_draft.specs.Query.{aggregate_of}
 use Rattle.sqlite_rules.proofs.ListLemmas.{any_has}
 use Rattle.sqlite_sql.specs.Group.{value_over}
-use Rattle.wu_schema.proofs.CountTexts.{CountFits, Counted, IsCountTyped, count_rows, counted_accepted, counted_compiles, names_by, parsed_by, query_by}
+use Rattle.wu_schema.proofs.CountTexts.{CountFits, Counted, IsCountTyped, count_names, count_parsed, count_query, count_rows, counted_accepted, counted_compiles}
 use Rattle.wu_schema.proofs.QueryLemmas.{plain_query, alone}
 use Rattle.sqlite_schema.specs.declared.schema.Table.{Table}
 use Rattle.wu_schema.proofs.SelectLemmas.{Asked, Fits, IsTyped, parsed_of, query_of, names_of, tests_of, terms_of, compiles, accepts_is}
@@ -18,11 +18,7 @@ use Rattle.wu_schema.proofs.SelectLemmas.{CompilesTo}
 -- a failure of the store is one of memory, disk or size
 pub store_told : (cause : StoreError) → IsFailure (fault_of (store_error cause))
 store_told kind.OutOfMemory = inl refl
-store_told kind.Io = inr refl
-store_told kind.Corrupt = inr refl
-store_told kind.Full = inr refl
-store_told kind.Broken = inr refl
-store_told kind.Unstorable = inr refl
+store_told _ = inr refl
 
 pub failed_told : (old new : State) (big : Type 0) (e : Error) → Fails old new big e → IsFailure (fault_of e)
 failed_told old new big e h = subst (λ x. IsFailure (fault_of x)) (sym h.1) (store_told h.0)
@@ -72,15 +68,15 @@ module _ (title : Name) (at : ℕ) (table : Table) (q : Asked) (fits : Fits titl
       (accepts_is old.now.schema title at table has q fits params typed) (never_over table.tree (query_of title table q) (tests_of title table q) (terms_of title table q) old.now.trees params refl refl) unlimited e
 
 -- counts are no sums
-never_counted : (title : Name) (table : Table) (q : Counted) (by : Option ℕ) (db : Trees) (params : Row) → ¬ ProgramOverflows db params [] [] (query_by title table q by)
-never_counted title table q by db params (inl sums) =
+never_counted : (title : Name) (table : Table) (q : Counted) (db : Trees) (params : Row) → ¬ ProgramOverflows db params [] [] (count_query title table q)
+never_counted title table q db params (inl sums) =
     let group = any_has _ sums.0 sums.2 in
     let sum = any_has _ (aggregate_of count_rows ∷ []) group.2 in
     absurd (elim sum.1 [ inl same ↦ (let over = subst (λ a. value_over group.0 a ≡ None) same sum.2 in cc) | inr none ↦ none ])
-never_counted title table q by db params (inr folds) = absurd folds.4
+never_counted title table q db params (inr folds) = absurd folds.4
 
-module _ (title : Name) (at : ℕ) (table : Table) (q : Counted) (by : Option ℕ) (fits : CountFits title table q by) (old new : State) (has : HasTable old.now.schema title at table) (params : Row) (e : Error) where
-  pub counted_told : length params ≡ length q.parameters → IsCountTyped title table q by params → old.step_limit ≡ None → FailsToQuery q.text params old new e → IsFailure (fault_of e)
+module _ (title : Name) (at : ℕ) (table : Table) (q : Counted) (fits : CountFits title table q) (old new : State) (has : HasTable old.now.schema title at table) (params : Row) (e : Error) where
+  pub counted_told : length params ≡ length q.parameters → IsCountTyped title table q params → old.step_limit ≡ None → FailsToQuery q.text params old new e → IsFailure (fault_of e)
   counted_told given typed unlimited =
-      query_told q.text params old new (parsed_by title table q by) (query_by title table q by) (names_by table by) (counted_compiles old.now.schema title at table has q by fits) (omega arith) given
-      (counted_accepted old.now.schema title at table has q by fits params typed) (never_counted title table q by old.now.trees params) unlimited e
+      query_told q.text params old new (count_parsed title table q) (count_query title table q) count_names (counted_compiles old.now.schema title at table has q fits) (omega arith) given
+      (counted_accepted old.now.schema title at table has q fits params typed) (never_counted title table q old.now.trees params) unlimited e

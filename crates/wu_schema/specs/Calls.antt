@@ -1,5 +1,5 @@
 -- What a call does to a connection, and what a crash may leave then.
-use Rattle.std.specs.Prelude.{◌≡◌, ◌⊎◌, ℕ, false, List, Vec, Ok, Err, Result, OnOk, OnErr, IfOk, IfErr, IsTrue}
+use Rattle.std.specs.Prelude.{◌≡◌, ◌⊎◌, ℕ, false, List, Ok, Err, Result, OnOk, OnErr, IfOk, IfErr, IsTrue}
 use Rattle.sqlite_disk.specs.Disk.{MoreFaults}
 use Rattle.sqlite.specs.Order.{Row}
 use Rattle.sqlite.specs.Tree.{Trees}
@@ -103,10 +103,6 @@ Tells g old new result Is = HasCleanDisk (state g new) → IfOk result (λ found
 -- The answer is what each represented world has.
 abbrev pub Answers : {S T : Type 0} → Ghosts S → Held S → Held S → Result T Fault → (World → T) → Type 0
 Answers g old new result answer = Tells g old new result (λ found world. found ≡ answer world)
-
--- The rows of the answer are those that each represented world has.
-abbrev pub AnswersRows : {S A : Type 0} → Ghosts S → Held S → Held S → Result (Vec Row A) Fault → (World → List Row) → Type 0
-AnswersRows g old new result answer = Tells g old new result (λ found world. found.items ≡ answer world)
 
 -- What a statement in a transaction does to it, whatever it answers.
 pub record StatementFrame {S T E : Type 0} (g : Ghosts S) (old new : Transaction S) (result : Result T E) : Type 0 where

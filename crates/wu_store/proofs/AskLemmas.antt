@@ -1,6 +1,6 @@
 -- A SELECT of ours, whole: what it does to the connection, what it answers, and that it is not refused.
 use Rattle.wu_schema.proofs.AskingLemmas.{asks_now}
-use Rattle.wu_schema.proofs.Words.{Bool, Database, Err, Error, FailsToQuery, Fault, Ghosts, HasCleanDisk, Held, IfErr, IsErrAnd, IsFailure, IsSome, IsTrue, List, None, NotAProject, Ok, Option, Result, Row, Shown, Some, Refines, State, Vec, World, [], arith, fault_of, inl, inr, length, not, option_to_list, refl, state, subst, sym, ℕ, ⊤, ◌++◌, ◌<◌, ◌==◌, ◌∙◌, ◌∷◌, ◌≡◌, ◌≢◌, ◌⊎◌}
+use Rattle.wu_schema.proofs.Words.{Bool, Database, Err, Error, FailsToQuery, Fault, Ghosts, HasCleanDisk, Held, IfErr, IsErrAnd, IsFailure, IsSome, IsTrue, List, None, NotAProject, Ok, Option, Result, Row, Shown, Some, Refines, State, Vec, World, [], arith, fault_of, inl, inr, length, not, option_to_list, refl, state, subst, sym, ℕ, ⊤, ◌++◌, ◌<◌, ◌==◌, ◌∙◌, ◌∷◌, ◌≡◌, ◌≢◌, ◌⊎◌, ◌^◌, ◌≤◌}
 use Rattle.std.specs.Prelude.{IfOk, MatchResult}
 use Rattle.wu_schema.specs.Asking.{Asks, FailsAll, IsSelect, ServesUnlessFailed, ShowsAll, TellsQuery}
 use Rattle.wu_schema.proofs.ReadLemmas.{if_ok, if_err}
@@ -61,13 +61,18 @@ pub record IsQuestion (text : List ℕ) (params : Row) (Over : Database → Worl
   pub told : (old new : State) (e : Error) → FailsToQuery text params old new e → (world : World) → Over old.now world → old.step_limit ≡ None → IsFailure (fault_of e)
 
 -- one that fits its table
+module _ (p : Part) (q : Asked) (fits : (tree : ℕ) → Fits (name_of p) (table_in p tree) q) (params : Row) (few : length params ≡ length q.parameters) (typed : (tree : ℕ) → IsTyped (name_of p) (table_in p tree) q params) where
+  pub question_over : (Over : Database → World → Type 0) → ((db : Database) (world : World) → Over db world → Refines db world × IsIn p world.version) → IsQuestion q.text params Over
+  question_over Over there = record {
+    select = record { parsed = parsed_of (name_of p) (table_in p 0) q; select = select_of (name_of p) (table_in p 0) q; read = (fits 0).read; is = refl };
+    told = λ old new e h world stood unlimited.
+        let (s, is_in) = there old.now world stood in
+        let has = parts_there old.now world s p is_in in
+        asked_told (name_of p) has.0 _ q (fits _) old new has.1 params e few (typed _) unlimited h;
+  }
+
 pub question : (p : Part) → ((version : ℕ) → IsIn p version) → (q : Asked) → ((tree : ℕ) → Fits (name_of p) (table_in p tree) q) → (params : Row) → length params ≡ length q.parameters → ((tree : ℕ) → IsTyped (name_of p) (table_in p tree) q params) → IsQuestion q.text params Refines
-question p in_p q fits params few typed = record {
-  select = record { parsed = parsed_of (name_of p) (table_in p 0) q; select = select_of (name_of p) (table_in p 0) q; read = (fits 0).read; is = refl };
-  told = λ old new e h world s unlimited.
-      let has = parts_there old.now world s p (in_p world.version) in
-      asked_told (name_of p) has.0 _ q (fits _) old new has.1 params e few (typed _) unlimited h;
-}
+question p in_p q fits params few typed = question_over p q fits params few typed Refines (λ db world s. (s, in_p world.version))
 
 module _ {S : Type 0} {text : List ℕ} {params : Row} {Over : Database → World → Type 0} (g : Ghosts S) (it : IsQuestion text params Over) (old new : Held S) (given : Row) (same : given ≡ params) where
   abbrev before : State
@@ -307,3 +312,12 @@ read_told fault (inr refused) = inr (inr refused)
 pub read_handed : {U : Type 0} (r : Result U Fault) (fault : Fault) → IsErrAnd r (λ other. other ≡ fault) → IsReadFault fault → IfErr r IsReadFault
 read_handed (Ok y) fault same told = tt
 read_handed (Err other) fault same told = subst IsReadFault (sym same) told
+
+-- a number that no key has, before anything is asked
+pub reads_unkeyed : {S : Type 0} (g : Ghosts S) (old : Held S) {Over : Database → World → Type 0} (n : ℕ) (fault : Fault) → fault ≡ NotAProject → 2 ^ 63 ≤ n → Reads {T = ℕ} g old old (Err fault) IsStoreFault Over (λ r world. ⊤) (λ world. n < 2 ^ 63)
+reads_unkeyed g old n fault refused beyond = record {
+  asks = asks_none g old (Err fault) (never_broken (Err fault) (inr refused));
+  fault = read_told fault (inr refused);
+  found = λ clean world stood. tt;
+  unrefused = λ clean world stood low limit. absurd (omega (arith, low, beyond));
+}

@@ -1,24 +1,22 @@
 -- What the statements that change a project do to the world that it stands for.
-use Rattle.wu_schema.proofs.Words.{Archived, ap, Executes, Grant, Import, Instance, Int, Integer, List, None, Null, Ok, Option, Result, Some, Refines, PutsOne, State, Text, Workunit, World, [], archived_at, archived_cells, arith, bound_value, cast, cast_row, codes, grant_at, grant_cells, import_at, import_cells, instance_cells, map, next_rowid, number, number_or_null, of_z, option_map, pos, refl, result_at, stored_archived, stored_grant, stored_workunit, text_or_null, to_z, to_z-of_z, Value, value_rows, w64, workunit_at, workunit_row, ℕ, ℤ, ◌<◌, ◌^◌, ◌∙◌, ◌∷◌, ◌≡◌}
+use Rattle.wu_schema.proofs.Words.{Archived, ap, Executes, Grant, Import, Instance, Int, Integer, List, None, Null, Ok, Option, Result, Some, Refines, PutsOne, State, Text, Workunit, World, [], archived_at, archived_cells, arith, bound_value, cast, Error, cast_row, codes, grant_at, grant_cells, import_at, import_cells, instance_cells, map, next_rowid, number, number_or_null, of_z, option_map, pos, refl, result_at, stored_archived, stored_grant, stored_workunit, text_or_null, to_z, to_z-of_z, Value, value_rows, w64, workunit_at, workunit_row, ℕ, ℤ, ◌<◌, ◌^◌, ◌∙◌, ◌∷◌, ◌≡◌}
 use Rattle.sqlite.specs.Held.{state}
 use Rattle.sqlite.specs.Store.{Ghosts}
 use Rattle.sqlite.specs.declared.transaction.Transaction.{Transaction}
 use Rattle.wu_schema.specs.Calls.{StatementFrame, TransactionFrame}
-use Rattle.wu_schema.proofs.CallLemmas.{part_then}
+use Rattle.wu_schema.proofs.CallLemmas.{part_none, part_then}
 use Rattle.wu_core.specs.World.{MayBeKept}
 use Rattle.wu_store.specs.Changes.{HasInstances, IsNextPlace, PutsGrants, with_archived, with_import, with_instance, with_next, with_version}
-use Rattle.std.specs.Prelude.{FitsSigned}
 use Rattle.std.proofs.lemmas.Int.{fits_signed_from_abs}
 use Rattle.sqlite.specs.Values as values
 use Rattle.sqlite.specs.Kind.TheVariants.{Text as KindText}
 use Rattle.wu_store.proofs.InsertTexts.{workunit_put, workunit_fits, instance_put, instance_fits, grant_put, grant_fits, archived_put, archived_fits, import_put, import_fits}
 use Rattle.wu_schema.proofs.InsertEffect.{cast_null, cast_int, puts_one}
-use Rattle.wu_store.proofs.UpdateLemmas.{next_made, next_set, next_text, version_made, version_set, version_set_text}
-use Rattle.wu_store.proofs.UpdateEffect.{updates_project, sets_next, sets_version}
+use Rattle.wu_store.proofs.ProjectEffect.{next_fits, next_set, sets_next, sets_version, updates_project, version_fits, version_set}
 use Rattle.wu_schema.specs.Classes.{HasClassTables, unbound_in}
 use Rattle.wu_schema.specs.Tables.{IsClassedVersion}
 use Rattle.wu_schema.proofs.ClassLemmas.{stands_with_classes}
-use Rattle.wu_schema.proofs.StandsLemmas.{but_one, is_there, lists_still}
+use Rattle.wu_schema.proofs.StandsLemmas.{but_one, lists_still}
 use Rattle.wu_store.proofs.StandsWith.{stands_with_import, stands_with_next}
 use Rattle.wu_store.proofs.PlacedLemmas.{stands_with_instance}
 use Rattle.wu_store.proofs.ListedLemmas.{listed_next, stands_with_archived}
@@ -54,10 +52,6 @@ sent n m is low = rw is (to_z-of_z w64 (pos m) (fits_signed_from_abs w64 (pos m)
 -- a number that fits is bound as it is
 pub sent_number : {v : Value} {n : ℤ} (m : ℕ) → v ≡ Int (to_z w64 (of_z w64 n)) → n ≡ pos m → m < 2 ^ 63 → bound_value v ≡ number m
 sent_number {v} {n} m given is low = ap bound_value given ∙ ap (λ z. Int z) (sent n m is low)
-
--- so is an integer of its type
-pub sent_integer : {v : Value} {n : ℤ} → v ≡ Int (to_z w64 (of_z w64 n)) → FitsSigned w64 n → bound_value v ≡ Int n
-sent_integer {v} {n} given fits = ap bound_value given ∙ ap (λ z. Int z) (to_z-of_z w64 n fits)
 
 pub bound_number_or_null : (o : Option ℕ) → bound_value (number_or_null o) ≡ number_or_null o
 bound_number_or_null None = refl
@@ -107,28 +101,34 @@ module _ (old new : State) (world : World) (s : Refines old.now world) where
   pub puts_import : (import : Import) (count : ℕ) → Executes import_put.text (import_cells import) old new (Ok count) → MayBeKept import → Refines new.now (with_import import world)
   puts_import import count h kept = stands_with_import old.now new.now world s import kept (put_import import count h)
 
-  pub sets_number : (n count : ℕ) → Executes next_text (number n ∷ []) old new (Ok count) → Refines new.now (with_next n world)
+  pub sets_number : (n count : ℕ) → Executes next_set.text (number n ∷ []) old new (Ok count) → Refines new.now (with_next n world)
   sets_number n count h =
-      let tree = s.trees.project in
-      let has = s.tables.project in
-      let there = is_there old.now.schema _ _ has in
-      let sets = updates_project next_text (codes "next_number") next_made next_set old new has.0 tree has.1 has.2 there (pos n) count h in
-      stands_with_next old.now new.now world s n sets.schema (sets_next old new has.0 tree has.1 has.2 there (pos n) (pos world.version) (pos world.next_number) count h s.rows.project) sets.others sets.sound
+      let sets = updates_project old new s.trees.project s.tables.project (pos n) count next_set next_fits h in
+      stands_with_next old.now new.now world s n sets.schema (sets_next old new s.trees.project s.tables.project (pos n) count (pos world.version) (pos world.next_number) h s.rows.project) sets.others sets.sound
 
   -- at the version of classes, where their tables are there, with no class yet
-  pub sets_classes : (older : ¬ IsClassedVersion world.version) → HasClassTables old.now (unbound_in world) → (count : ℕ) → Executes version_set_text (number 3 ∷ []) old new (Ok count) → Refines new.now (with_version 3 world)
+  pub sets_classes : (older : ¬ IsClassedVersion world.version) → HasClassTables old.now (unbound_in world) → (count : ℕ) → Executes version_set.text (number 3 ∷ []) old new (Ok count) → Refines new.now (with_version 3 world)
   sets_classes older c count h =
-      let tree = s.trees.project in
-      let has = s.tables.project in
-      let there = is_there old.now.schema _ _ has in
-      let sets = updates_project version_set_text (codes "version") version_made version_set old new has.0 tree has.1 has.2 there (pos 3) count h in
-      stands_with_classes old.now world s older c new.now sets.schema (sets_version old new has.0 tree has.1 has.2 there (pos 3) (pos world.version) (pos world.next_number) count h s.rows.project) sets.others sets.sound
+      let sets = updates_project old new s.trees.project s.tables.project (pos 3) count version_set version_fits h in
+      stands_with_classes old.now world s older c new.now sets.schema (sets_version old new s.trees.project s.tables.project (pos 3) count (pos world.version) (pos world.next_number) h s.rows.project) sets.others sets.sound
 
--- ---- statements, and one then
+-- ---- what statements do to a transaction, one after another
 
-pub frame_after : {S T U E : Type 0} (g : Ghosts S) (a b c : Transaction S) (x : T) → TransactionFrame {E = E} g a b (Ok x) → (r : Result U E) → StatementFrame g b c r → StatementFrame g a c r
-frame_after g a b c x one r two = record {
-  same_reference = two.same_reference ∙ one.same_reference;
-  part = part_then (state g a.conn.now) (state g b.conn.now) (state g c.conn.now) one.part two.part;
-  inside = two.inside;
-}
+-- any number of them, so far
+abbrev pub Works : {S : Type 0} → Ghosts S → Transaction S → Transaction S → Type 0
+Works g old new = TransactionFrame {T = Unit {0}} {E = Error} g old new (Ok tt)
+
+pub works_none : {S : Type 0} (g : Ghosts S) (a : Transaction S) → Works g a a
+works_none g a = record { same_reference = refl; part = part_none (state g a.conn.now); stays = λ clean within. within }
+
+module _ {S : Type 0} {g : Ghosts S} {a b : Transaction S} where
+  -- one more
+  pub works_once : {T : Type 0} {x : T} → StatementFrame {E = Error} g a b (Ok x) → Works g a b
+  works_once one = record { same_reference = one.same_reference; part = one.part; stays = λ clean within. one.inside clean }
+
+  pub works_then : {c : Transaction S} → Works g a b → Works g b c → Works g a c
+  works_then {c = c} one two = record {
+    same_reference = two.same_reference ∙ one.same_reference;
+    part = part_then (state g a.conn.now) (state g b.conn.now) (state g c.conn.now) one.part two.part;
+    stays = λ clean within. two.stays clean (one.stays (omega (arith, two.part.survives.clean, clean)) within);
+  }

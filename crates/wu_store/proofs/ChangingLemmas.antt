@@ -36,9 +36,9 @@ makes_more changes i change d a b c there low one two = subst (λ xs. MakesWorld
 })
 
 -- one change, by what it makes and by what it spares
-pub makes_one : {T E : Type 0} (r : Result T E) (change : Change) (old new : Database) → OnOk r ((world : World) → StandsFor old world → AreRight (change ∷ []) world → StandsFor new (made change world))
-    → OnOk r ((world : World) → StandsFor old world → AreRight (change ∷ []) world → SparesOthers old new) → OnOk r (MakesWorlds (change ∷ []) old new)
-makes_one r change old new stands spares = ok_both r _ _ _ (λ stands spares. record { stands = stands; spares = spares }) stands spares
+pub makes_one : {T E : Type 0} (r : Result T E) (change one : Change) (old new : Database) → change ≡ one → OnOk r ((world : World) → StandsFor old world → AreRight (one ∷ []) world → StandsFor new (made one world))
+    → OnOk r ((world : World) → StandsFor old world → AreRight (one ∷ []) world → SparesOthers old new) → OnOk r (MakesWorlds (change ∷ []) old new)
+makes_one r change one old new is stands spares = subst (λ it. OnOk r (MakesWorlds (it ∷ []) old new)) (sym is) (ok_both r _ _ _ (λ stands spares. record { stands = stands; spares = spares }) stands spares)
 
 -- ---- grants, and archived rows, at places in a row
 

@@ -11,10 +11,10 @@ use Rattle.wu_schema.proofs.SelectLemmas.{Asked, Fits, IsTyped, parsed_of, selec
 use Rattle.wu_schema.proofs.ToldLemmas.{asked_told}
 use Rattle.wu_store.specs.Answers.{numbered}
 use Rattle.wu_store.specs.Reads.{WithClasses}
-use Rattle.wu_store.proofs.AskLemmas.{IsQuestion}
+use Rattle.wu_store.proofs.AskLemmas.{IsQuestion, question_over}
 use Rattle.wu_store.proofs.EqualLemmas.{number_equal, text_equal}
 use Rattle.wu_store.proofs.OnceLemmas.{one_passes}
-use Rattle.wu_store.proofs.ReadAnswers.{asked_rows, kept_mapped, one_row, only_shown}
+use Rattle.wu_store.proofs.ReadAnswers.{asked_rows, cells_shown, one_row, only_shown}
 use Rattle.wu_store.proofs.WorldOnce.{bytes_same, once_number}
 use Rattle.wu_store.specs.declared.texts.TheConstants.{SELECT_CLASS, SELECT_HOST_CLASS}
 
@@ -23,12 +23,7 @@ use Rattle.wu_store.specs.declared.texts.TheConstants.{SELECT_CLASS, SELECT_HOST
 -- one that fits its table
 pub class_question : (p : Part) → ((version : ℕ) → IsClassedVersion version → IsIn p version) → (q : Asked) → ((tree : ℕ) → Fits (name_of p) (table_in p tree) q) → (params : Row) → length params ≡ length q.parameters → ((tree : ℕ) → IsTyped (name_of p) (table_in p tree) q params)
     → IsQuestion q.text params WithClasses
-class_question p in_p q fits params few typed = record {
-  select = record { parsed = parsed_of (name_of p) (table_in p 0) q; select = select_of (name_of p) (table_in p 0) q; read = (fits 0).read; is = refl };
-  told = λ old new e h world stood unlimited.
-      let has = parts_there old.now world stood.1 p (in_p world.version stood.0) in
-      asked_told (name_of p) has.0 _ q (fits _) old new has.1 params e few (typed _) unlimited h;
-}
+class_question p in_p q fits params few typed = question_over p q fits params few typed WithClasses (λ db world stood. (stood.1, in_p world.version stood.0))
 
 -- ---- the class of a workunit
 
@@ -96,13 +91,8 @@ pub host_found : (old new : State) (host : List ℕ) (rows : List Row) → Shown
 host_found old new host rows h world (known, s) =
     let stored = old.now.trees s.trees.host_class in
     let all = asked_rows HostClasses host_asked host_fits old new world s known (Text host ∷ []) rows refl h in
-    let seen : map (λ r. class_in (drop 1 r)) (filter (λ r. by_name host (drop 1 r)) stored) ≡ map class_in (filter (by_name host) (map (drop 1) stored)) =
-    sym (map-map class_in (drop 1) (filter (λ r. by_name host (drop 1 r)) stored)) ∙ ap (map class_in) (sym (filter-map (by_name host) (drop 1) stored)) in
-    let kept : map class_in (filter (by_name host) (map class_cells world.classes)) ≡ map host_row (filter (is_named host) world.classes) =
-    ap (map class_in) (kept_mapped (by_name host) (is_named host) class_cells world.classes (λ it. text_equal it.host host)) ∙ map-map class_in class_cells (filter (is_named host) world.classes) in
-    let permuted = IsPermutation-map class_in _ _ (IsPermutation-filter (by_name host) (map class_cells world.classes) (map (drop 1) stored) (s.rows.classes known).hosts.same) in
     only_shown host_row (is_named host) world.classes rows (once_named host world.classes (rising world.classes (pairs_ascend Before world.classes s.rows.classes_in_order)))
-    (subst (λ rs. IsPermutation rs rows) kept (IsPermutation-trans _ _ _ permuted (subst (λ rs. IsPermutation rs rows) ((λ i. map (λ r. shows_cells r i) (filter (λ r. tests_cells host r i) stored)) ∙ seen) all)))
+    (cells_shown class_cells host_row (is_named host) (by_name host) class_in _ _ (tests_cells host) shows_cells (λ it. text_equal it.host host) (λ it. refl) world.classes stored (s.rows.classes known).hosts rows all)
   where
     shows_cells : (r : Row) → column r 2 ∷ [] ≡ class_in (drop 1 r)
     shows_cells [] = refl

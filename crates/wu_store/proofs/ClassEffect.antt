@@ -1,5 +1,5 @@
 -- What the statements of a workunit's class do to the world and to a queue.
-use Rattle.wu_schema.proofs.Words.{Bool, Database, Executes, HoldsAll, List, ListsAll, Null, Ok, Refines, Row, State, Workunit, World, [], ap, append-nil, arith, cast_row, class_row, codes, col, eqb-true, everything, flat_map, if◌then◌else◌, instances_of, lit, map, map-map, number, pos, refl, stored_class, stored_workunit, subst, sym, true, false, value_rows, workunit_class_at, ℕ, ◌==◌, ◌++◌, ◌∙◌, ◌∷◌, ◌≡◌, PutsOne, Schema}
+use Rattle.wu_schema.proofs.Words.{Bool, Database, Executes, HoldsAll, List, ListsAll, Null, Ok, Refines, Row, State, Workunit, World, [], ap, append-nil, arith, cast_row, class_row, codes, col, eqb-true, everything, if◌then◌else◌, instances_of, lit, map, map-map, number, pos, refl, stored_class, stored_workunit, subst, sym, true, false, value_rows, workunit_class_at, ℕ, ◌==◌, ◌∙◌, ◌∷◌, ◌≡◌, PutsOne, Schema}
 use Rattle.sqlite_sql.specs.declared.ops.CompareOp.TheVariants as compare
 use Rattle.wu_core.specs.declared.marks.Marks.{Marks}
 use Rattle.wu_schema.specs.Queue.{HasQueue}
@@ -16,7 +16,7 @@ use Rattle.wu_store.specs.Changes.{with_placed, without_instances}
 use Rattle.wu_store.proofs.PlacedLemmas.{stands_with_placed}
 use Rattle.wu_store.specs.Classes.{AddsClass, ChangesClasses, PutsClass, and_class, with_class_of, with_set_class}
 use Rattle.wu_store.specs.StandsFor.{KnowsClasses}
-use Rattle.wu_store.proofs.QueueLemmas.{lists_at_place}
+use Rattle.wu_store.proofs.KeyedLemmas.{flat_map_stays, lists_at_place, map_stays}
 use Rattle.wu_store.proofs.ChangeLemmas.{cast_number}
 use Rattle.wu_store.proofs.DeleteTexts.{by_number}
 use Rattle.wu_store.proofs.InPlaceLemmas.{replaced}
@@ -99,22 +99,6 @@ module _ (n class : ℕ) where
       one true same = ap (λ m. class_row (m, class)) (sym (eqb-true w.number n same))
       one false other = refl
 
-  works_stay : (ws : List Workunit) → map stored_workunit (map (and_class n class) ws) ≡ map stored_workunit ws
-  works_stay [] = refl
-  works_stay (w ∷ ws) = ap (λ r. r ∷ map stored_workunit (map (and_class n class) ws)) (one (w.number == n)) ∙ ap (λ rs. stored_workunit w ∷ rs) (works_stay ws)
-    where
-      one : (b : Bool) → stored_workunit (if b then record w { class = class } else w) ≡ stored_workunit w
-      one true = refl
-      one false = refl
-
-  instances_stay : (ws : List Workunit) → flat_map instances_of (map (and_class n class) ws) ≡ flat_map instances_of ws
-  instances_stay [] = refl
-  instances_stay (w ∷ ws) = ap (λ is. is ++ flat_map instances_of (map (and_class n class) ws)) (one (w.number == n)) ∙ ap (λ is. instances_of w ++ is) (instances_stay ws)
-    where
-      one : (b : Bool) → instances_of (if b then record w { class = class } else w) ≡ instances_of w
-      one true = refl
-      one false = refl
-
   module _ (old new : State) (world : World) (known : KnowsClasses world) (s : Refines old.now world) (count : ℕ) (ran : Executes class_set.text (number n ∷ number class ∷ []) old new (Ok count)) where
     abbrev tree : ℕ
     tree = s.trees.workunit_class
@@ -145,8 +129,8 @@ module _ (n class : ℕ) where
       where
         carry : (p : Part) → is_part WorkClasses p ≡ false → (rs : List Row) → Holds p rs world → Holds p rs (with_set_class n class world)
         carry WorkClasses off rs h = absurd (cc)
-        carry Workunits off rs h = subst (ListsAll rs) (sym (works_stay world.workunits)) h
-        carry Instances off rs h = subst (HoldsAll rs) (sym (instances_stay world.workunits)) h
+        carry Workunits off rs h = subst (ListsAll rs) (sym (map_stays (λ (w : Workunit). w.number == n) (λ w. record w { class = class }) stored_workunit (λ w on. refl) world.workunits)) h
+        carry Instances off rs h = subst (HoldsAll rs) (sym (flat_map_stays (λ (w : Workunit). w.number == n) (λ w. record w { class = class }) instances_of (λ w on. refl) world.workunits)) h
         carry _ off rs h = h
 
     pub class_set_leaves : (marked : List (ℕ × Marks)) → HasQueue old.now marked → HasQueue new.now marked

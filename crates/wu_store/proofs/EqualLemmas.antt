@@ -1,8 +1,7 @@
 -- When SQL finds two values equal.
 use Rattle.wu_schema.proofs.Words.{Binary, Bool, Equal, Greater, Int, Less, List, Ordering, Some, Text, ap, arith, binary, bytes_eq, cond, equal, false, int_cmp, is_eq, is_true, nat_le, nat_lt, nat_tests, negsuc, not, pos, refl, sym, true, value_cmp, value_cmp-Int, ℕ, ℤ, ◌==◌, ◌∙◌, ◌≡◌}
 use Rattle.std.specs.Prelude.{int_lt}
-use Rattle.std.specs.Cmp.Lexicographic.{slice_cmp}
-use Rattle.std.specs.Ordering.{is_gt, nat_cmp}
+use Rattle.std.specs.Ordering.{is_gt}
 use Rattle.std.proofs.lemmas.Map.Text.{is_eq-slice_cmp}
 use Rattle.sqlite_value.proofs.OrderLemmas.{value_cmp-Text}
 use Rattle.sqlite_sql.specs.Ops.{test}
@@ -32,13 +31,7 @@ number_equal a b = int_equal (pos a) (pos b) ∙ number_tied a b
 
 is_more : (o : Ordering) → test compare.Gt o ≡ is_gt o
 is_more Less = refl
-is_more Equal = refl
-is_more Greater = refl
-
--- one text is above another by its bytes
-pub text_above : (a b : List ℕ) → is_true (binary (by.Compare compare.Gt Binary) (Text a) (Text b)) ≡ is_gt (slice_cmp nat_cmp a b)
-unfolding binary
-text_above a b = true_if (test compare.Gt (value_cmp (Text a) (Text b))) ∙ ap (test compare.Gt) (value_cmp-Text a b) ∙ is_more (slice_cmp nat_cmp a b)
+is_more _ = refl
 
 -- one number is above another
 is_greater : (a b : ℤ) → is_gt (int_cmp a b) ≡ int_lt b a
@@ -73,8 +66,7 @@ int_at_most a b = true_if (test compare.Le (value_cmp (Int a) (Int b))) ∙ ap (
   where
     tested : (o : Ordering) → test compare.Le o ≡ not (is_gt o)
     tested Less = refl
-    tested Equal = refl
-    tested Greater = refl
+    tested _ = refl
 
 pub number_at_most : (a b : ℕ) → is_true (binary (by.Compare compare.Le Binary) (Int (pos a)) (Int (pos b))) ≡ nat_le a b
 number_at_most a b = int_at_most (pos a) (pos b) ∙ tests
@@ -93,8 +85,7 @@ number_at_least a b = true_if (test compare.Ge (value_cmp (Int (pos a)) (Int (po
 
     tested : (o : Ordering) → test compare.Ge o ≡ not (is_less o)
     tested Less = refl
-    tested Equal = refl
-    tested Greater = refl
+    tested _ = refl
 
     chosen : (c d : Bool) → is_less (cond c Less (cond d Greater Equal)) ≡ c
     chosen true d = refl

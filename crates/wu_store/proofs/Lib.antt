@@ -8,6 +8,7 @@ pub mod ReadAnswers
 pub mod AskLemmas
 pub mod OrderAnswers
 pub mod LastLemmas
+pub mod KeyedLemmas
 pub mod PlacedLemmas
 pub mod ListedLemmas
 pub mod SumLemmas
@@ -22,9 +23,9 @@ pub mod HostClassEffect
 pub mod ClassAnswers
 pub mod QueueLemmas
 pub mod QueueAnswers
-pub mod UpdateLemmas
 pub mod UpdateEffect
 pub mod SetEffect
+pub mod ProjectEffect
 mod SetLemmas
 mod SetInstance
 mod ReplaceLemmas

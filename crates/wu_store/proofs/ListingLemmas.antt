@@ -1,5 +1,5 @@
 -- Lines are listed one workunit after another.
-use Rattle.std.proofs.Common.{◌≡◌, ◌∙◌, List, [], ◌∷◌, ◌++◌, Option, Some, None, ap, append-nil, append_assoc, refl, subst, sym, flat_map}
+use Rattle.std.proofs.Common.{◌≡◌, ◌∙◌, List, [], ◌∷◌, ◌++◌, Option, Some, None, ap, append-nil, append_assoc, subst, sym, flat_map}
 use Rattle.std.proofs.lemmas.List.Concat.{flat_map-append}
 use Rattle.std.proofs.lemmas.List.Elements.{All-head, All-tail}
 use Rattle.std.specs.Prelude.{All, slice_get}
@@ -19,9 +19,6 @@ pub record AreListed {X : Type 0} (lines_of : Workunit → List X) (world : Worl
   pub all : world.workunits ≡ seen ++ rest
   pub next_is : next ≡ slice_get rest 0
   pub lines_are : lines ≡ flat_map lines_of seen
-
-pub none_listed : {X : Type 0} (lines_of : Workunit → List X) (world : World) (next : Option Workunit) → next ≡ slice_get world.workunits 0 → AreListed lines_of world [] next
-none_listed lines_of world next is = record { seen = []; rest = world.workunits; all = refl; next_is = is; lines_are = refl }
 
 module _ {X : Type 0} (lines_of : Workunit → List X) (world : World) (lines : List X) (w : Workunit) (so_far : AreListed lines_of world lines (Some w)) where
   abbrev after : List Workunit

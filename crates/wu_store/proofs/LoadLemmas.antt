@@ -1,5 +1,6 @@
 -- What is loaded of a project is what the world has, step by step.
 use Rattle.wu_store.proofs.AskLemmas.{reads_then}
+use Rattle.wu_schema.proofs.ReadingLemmas.{read_as}
 use Rattle.wu_schema.proofs.Words.{AllByRecursion, Bool, Err, Fault, Ghosts, IsOrWantsMemory, Held, IfErr, IfOk, Import, ImportKind, Instance, List, None, NotAProject, Ok, Option, Result, Row, Some, Refines, State, Workunit, World, [], ap, arith, cases_Bool, filter, find, if◌then◌else◌, inl, inr, instance_row, is_import, length, length-map, map, map-append, number, option_map, refl, slice_get, state, subst, sym, take, verdict_digits, workunit_row, ℕ, ◌++◌, ◌+◌, ◌-◌, ◌<◌, ◌==◌, ◌∙◌, ◌∷◌, ◌≡◌, ◌≢◌, ◌≤◌}
 use Rattle.std.specs.Prelude.{All, IfSome, MatchResult, cond, false, get_or, true}
 use Rattle.wu_core.specs.Storable.{IsClass}
@@ -158,11 +159,8 @@ module _ {T : Type 0} (row_of : T → Row) where
           not_ok f (get_or (one ∷ others) i one) (one ∷ others) (unread.found (get_or (one ∷ others) i one) (each (one ∷ others) are i one within) (sym at ∙ ap (λ rs. get_or rs i d) same ∙ get_or-map row_of (one ∷ others) i one d within))
 
 pub instances_restored : (rows : List Row) (are : List Instance) → map instance_row are ≡ rows → All IsStoredInstance are → length rows ≤ most_instances → Restores (map instance_row) AreStoredInstances rows (Ok are)
-instances_restored rows are is each few = record {
-  value = (sym is, record { each = each; few = omega (arith, few, ap (λ rs. length rs) (sym is) ∙ length-map are instance_row) });
-  found = λ others stored same. inl (ap (λ xs. Ok xs) (same_instances are others (is ∙ same)));
-  refused = tt;
-}
+instances_restored rows are is each few =
+    read_as (sym is, record { each = each; few = omega (arith, few, ap (λ rs. length rs) (sym is) ∙ length-map are instance_row) }) (λ others stored same. same_instances are others (is ∙ same))
 
 -- what is read is such as is stored
 pub instances_stored : (rows : List Row) (r : Result (List Instance) Fault) → Restores (map instance_row) AreStoredInstances rows r → IfOk r AreStoredInstances

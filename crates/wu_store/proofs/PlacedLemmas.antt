@@ -1,5 +1,5 @@
 -- A workunit at its place in order of number, and its instances beside those of the others.
-use Rattle.wu_schema.proofs.Words.{AllByRecursion, Bool, None, Database, Equal, Greater, HoldsAll, Instance, Int, IsAscending, IsPermutation, IsPermutation-refl, IsPermutation-sym, IsPermutation-trans, IsShaped-put_row, IsTable, Less, List, ListsAll, Ordering, PutsOne, Row, Refines, Workunit, World, [], all_has, ap, arith, cases_Bool, drop, enumerate_from, eq-eqb, eqb-true, false, filter, flat_map, if◌then◌else◌, inl, inr, instance_cells, instances_of, int_cmp, is_eq, is_taken, length, list_any, map, map-append, nat_tests, next_rowid, not, pos, put_row, refl, rowid, some_has, stored_workunit, subst, sym, true, value_cmp, value_cmp-Int, ℕ, ◌++◌, ◌+◌, ◌<◌, ◌==◌, ◌||◌, ◌∙◌, ◌∷◌, ◌≡◌, find, take, get_or, Some, option_map, ne_eqb, ◌≢◌, Null, Schema, number, stored_class}
+use Rattle.wu_schema.proofs.Words.{AllByRecursion, Bool, None, Database, Equal, Greater, HoldsAll, Instance, Int, IsAscending, IsPermutation, IsPermutation-refl, IsPermutation-sym, IsPermutation-trans, IsShaped-put_row, IsTable, Less, List, ListsAll, Ordering, PutsOne, Row, Refines, Workunit, World, [], all_has, ap, arith, cases_Bool, drop, enumerate_from, eq-eqb, eqb-true, false, filter, flat_map, if◌then◌else◌, inl, inr, instance_cells, instances_of, is_eq, is_taken, length, list_any, map, map-append, nat_tests, next_rowid, not, pos, put_row, refl, rowid, some_has, stored_workunit, subst, sym, true, value_cmp, ℕ, ◌++◌, ◌+◌, ◌<◌, ◌==◌, ◌||◌, ◌∙◌, ◌∷◌, ◌≡◌, find, take, get_or, Some, option_map, ne_eqb, ◌≢◌, Null, Schema, number, stored_class}
 use Rattle.wu_store.specs.Changes.{HasInstances, with_instance, with_placed, without_workunit, AddsInstance}
 use Rattle.std.proofs.Common.{append_assoc, length-take-le}
 use Rattle.std.proofs.lemmas.List.{take_more}
@@ -12,6 +12,7 @@ use Rattle.wu_store.specs.Changes.{HasNumber, LacksNumber, placed, with_replaced
 use Rattle.wu_core.specs.Storable.{IsAbove}
 use Rattle.std.proofs.lemmas.List.Sorted.{IsPermutation-append_comm, IsPermutation-append_left, IsPermutation-append_right}
 use Rattle.wu_store.proofs.EqualLemmas.{number_tied}
+use Rattle.wu_store.proofs.KeyedLemmas.{lists_at_place, map_stays, numbers_compare}
 use Rattle.wu_schema.proofs.StandsLemmas.{but_one, no_instances, cells_put, lists_still}
 use Rattle.wu_schema.proofs.QuietLemmas.{same_some}
 use Rattle.wu_schema.specs.Stored.{workunit_cells}
@@ -21,32 +22,6 @@ use Rattle.wu_schema.proofs.Parts.{Part, Workunits, Instances, HostClasses, Work
 -- numbers rise
 abbrev pub Rises : List Workunit → Type 0
 Rises = IsAscending (λ (a b : Workunit). a.number < b.number)
-
--- ---- the rows of the workunits
-
-pub numbers_compare : (m n : ℕ) → value_cmp (Int (pos m)) (Int (pos n)) ≡ nat_cmp m n
-numbers_compare m n = value_cmp-Int (pos m) (pos n) ∙ tests
-  where
-    tests : int_cmp (pos m) (pos n) ≡ nat_cmp m n
-    tests = grind (arith, nat_tests)
-
--- of a table that keeps something of each by its number
-module _ (cells : Workunit → Row) where
-  abbrev keyed : Workunit → Row
-  keyed w = number w.number ∷ cells w
-
-  put_placed : (w : Workunit) (ws : List Workunit) → put_row (keyed w) (map keyed ws) ≡ map keyed (placed w ws)
-  put_placed w [] = refl
-  put_placed w (v ∷ vs) = ap (λ o. match_ordering o (keyed v ∷ put_row (keyed w) (map keyed vs)) (keyed w ∷ map keyed vs) (keyed w ∷ keyed v ∷ map keyed vs)) (numbers_compare v.number w.number) ∙ go (put_placed w vs) (nat_cmp v.number w.number)
-    where
-      go : put_row (keyed w) (map keyed vs) ≡ map keyed (placed w vs) → (o : Ordering)
-          → match_ordering o (keyed v ∷ put_row (keyed w) (map keyed vs)) (keyed w ∷ map keyed vs) (keyed w ∷ keyed v ∷ map keyed vs) ≡ map keyed (match_ordering o (v ∷ placed w vs) (w ∷ vs) (w ∷ v ∷ vs))
-      go again Less = ap (λ rs. keyed v ∷ rs) again
-      go again Equal = refl
-      go again Greater = refl
-
-  pub lists_placed : (w : Workunit) (ws : List Workunit) (rows : List Row) → ListsAll rows (map keyed ws) → ListsAll (put_row (keyed w) rows) (map keyed (placed w ws))
-  lists_placed w ws rows l = record { shaped = IsShaped-put_row (keyed w) rows refl l.shaped; same = ap (put_row (keyed w)) l.same ∙ put_placed w ws }
 
 -- ---- what each workunit brings
 
@@ -149,22 +124,6 @@ pub enumerate_more : {X : Type 0} (k : ℕ) (xs : List X) (x : X) → enumerate_
 enumerate_more k [] x = let e : k ≡ k + 0 = omega arith in (λ i. (e i, x) ∷ [])
 enumerate_more k (y ∷ xs) x = let e : k + 1 + length xs ≡ k + length (y ∷ xs) = omega arith in ap (λ l. (k, y) ∷ l) (enumerate_more (k + 1) xs x ∙ (λ i. enumerate_from (k + 1) xs ++ (e i, x) ∷ []))
 
-works_same : (number : ℕ) (i : Instance) (ws : List Workunit) → map stored_workunit (map (and_instance number i) ws) ≡ map stored_workunit ws
-works_same number i [] = refl
-works_same number i (w ∷ ws) = (λ k. go (w.number == number) k ∷ works_same number i ws k)
-  where
-    go : (b : Bool) → stored_workunit (if b then record w { instances = w.instances ++ i ∷ [] } else w) ≡ stored_workunit w
-    go true = refl
-    go false = refl
-
-classes_same : (number : ℕ) (i : Instance) (ws : List Workunit) → map stored_class (map (and_instance number i) ws) ≡ map stored_class ws
-classes_same number i [] = refl
-classes_same number i (w ∷ ws) = (λ k. go (w.number == number) k ∷ classes_same number i ws k)
-  where
-    go : (b : Bool) → stored_class (if b then record w { instances = w.instances ++ i ∷ [] } else w) ≡ stored_class w
-    go true = refl
-    go false = refl
-
 -- a workunit of another number stays
 others_same : (number : ℕ) (i : Instance) (ws : List Workunit) → LacksNumber number ws → map (and_instance number i) ws ≡ ws
 others_same number i [] none = refl
@@ -244,8 +203,8 @@ module _ (old new : Database) (world : World) (s : Refines old world) where
       put.sound
     where
       carry : (q : Part) → is_part Instances q ≡ false → (rows : List Row) → Holds q rows world → Holds q rows (with_instance number i world)
-      carry Workunits off rows h = subst (ListsAll rows) (sym (works_same number i world.workunits)) h
-      carry WorkClasses off rows h = subst (ListsAll rows) (sym (classes_same number i world.workunits)) h
+      carry Workunits off rows h = subst (ListsAll rows) (sym (map_stays (λ (w : Workunit). w.number == number) (λ w. record w { instances = w.instances ++ i ∷ [] }) stored_workunit (λ w on. refl) world.workunits)) h
+      carry WorkClasses off rows h = subst (ListsAll rows) (sym (map_stays (λ (w : Workunit). w.number == number) (λ w. record w { instances = w.instances ++ i ∷ [] }) stored_class (λ w on. refl) world.workunits)) h
       carry Instances off rows h = absurd (cc)
       carry _ off rows h = h
 
@@ -275,8 +234,8 @@ module _ (old mid new : Database) (world : World) (s : Refines old world) (known
   has_new _ on = tt
 
   fits : (q : Part) → is_new q ≡ true → Holds q (new.trees (tree_in s.trees q)) (with_placed w world)
-  fits Workunits on = lists_still (second Workunits tt refl ∙ put.rows) (lists_placed (λ v. Null ∷ workunit_cells v) w world.workunits (old.trees s.trees.workunit) s.rows.workunits)
-  fits WorkClasses on = lists_still (class.rows ∙ ap (put_row (stored_class w)) (first WorkClasses known refl)) (lists_placed (λ v. Null ∷ number v.class ∷ []) w world.workunits (old.trees s.trees.workunit_class) (s.rows.classes known).workunits)
+  fits Workunits on = lists_still (second Workunits tt refl ∙ put.rows) (lists_at_place (λ (v : Workunit). v.number) (λ v. Null ∷ workunit_cells v) w world.workunits (old.trees s.trees.workunit) s.rows.workunits)
+  fits WorkClasses on = lists_still (class.rows ∙ ap (put_row (stored_class w)) (first WorkClasses known refl)) (lists_at_place (λ (v : Workunit). v.number) (λ v. Null ∷ number v.class ∷ []) w world.workunits (old.trees s.trees.workunit_class) (s.rows.classes known).workunits)
   fits _ on = absurd (cc)
 
   pub stands_with_placed : w.instances ≡ [] → Refines new (with_placed w world)
@@ -314,14 +273,6 @@ next_instance old new w n i d world none low at adds s =
     ap (λ b. if b then record w { instances = take n w.instances ++ i ∷ [] } else before) (eq-eqb w.number w.number refl)
     ∙ (λ k. record w { instances = (ap (λ one. take n w.instances ++ one ∷ []) (sym at) ∙ sym (take_more w.instances n d low)) k }) in
     subst (Refines new) (instance_placed before i world none ∙ ap (λ v. with_placed v world) more) (adds (with_placed before world) s has)
-
--- a workunit that was deleted has no number
-lacks_others : (n : ℕ) (ws : List Workunit) → LacksNumber n (filter (is_other n) ws)
-lacks_others n [] = refl
-lacks_others n (w ∷ ws) = elim (cases_Bool (w.number == n)) [
-  | inl on ↦ rw on (lacks_others n ws)
-  | inr off ↦ rw (off, off) (lacks_others n ws)
-]
 
 -- a workunit of a world that is deleted and then added is replaced
 pub replaced_is : (db : Database) (world : World) (s : Refines db world) (w : Workunit) → HasNumber w.number world.workunits → with_placed w (without_workunit w.number world) ≡ with_replaced w world

@@ -91,54 +91,31 @@ has_come (Some n) now = ap (λ b. b && (is_true (binary (by.Compare compare.Le B
 module _ (by n : ℕ) where
   abbrev pub given_of : Pass → Row
   given_of Transition = number 0 ∷ number by ∷ number n ∷ []
-  given_of Validate = number 1 ∷ number n ∷ []
-  given_of Assimilate = number 1 ∷ number n ∷ []
-  given_of Delete = number 1 ∷ number n ∷ []
   given_of Purge = number 0 ∷ number by ∷ number n ∷ []
+  given_of _ = number 1 ∷ number n ∷ []
 
   -- of a pass that goes by moments
   pub moments_given : (pass : Pass) → (pass ≡ Transition) ⊎ (pass ≡ Purge) → number 0 ∷ number by ∷ number n ∷ [] ≡ given_of pass
-  moments_given Transition is = refl
-  moments_given Validate (inl is) = absurd (cc)
-  moments_given Validate (inr is) = absurd (cc)
-  moments_given Assimilate (inl is) = absurd (cc)
-  moments_given Assimilate (inr is) = absurd (cc)
-  moments_given Delete (inl is) = absurd (cc)
-  moments_given Delete (inr is) = absurd (cc)
-  moments_given Purge is = refl
+  moments_given pass (inl is) = ap given_of (sym is)
+  moments_given pass (inr is) = ap given_of (sym is)
 
   -- and of one that does not
   pub flags_given : (pass : Pass) → (pass ≡ Validate) ⊎ (pass ≡ Assimilate) ⊎ (pass ≡ Delete) → number 1 ∷ number n ∷ [] ≡ given_of pass
-  flags_given Transition (inl is) = absurd (cc)
-  flags_given Transition (inr (inl is)) = absurd (cc)
-  flags_given Transition (inr (inr is)) = absurd (cc)
-  flags_given Validate is = refl
-  flags_given Assimilate is = refl
-  flags_given Delete is = refl
-  flags_given Purge (inl is) = absurd (cc)
-  flags_given Purge (inr (inl is)) = absurd (cc)
-  flags_given Purge (inr (inr is)) = absurd (cc)
+  flags_given pass (inl is) = ap given_of (sym is)
+  flags_given pass (inr (inl is)) = ap given_of (sym is)
+  flags_given pass (inr (inr is)) = ap given_of (sym is)
 
   few_as : (pass : Pass) → length (given_of pass) ≡ length (mark_parameters pass)
   few_as Transition = refl
-  few_as Validate = refl
-  few_as Assimilate = refl
-  few_as Delete = refl
-  few_as Purge = refl
+  few_as _ = refl
 
   typed_as : (pass : Pass) (tree : ℕ) → IsTyped (codes "queue") (queue_at tree) (pass_asked pass) (given_of pass)
   typed_as Transition tree = refl
-  typed_as Validate tree = refl
-  typed_as Assimilate tree = refl
-  typed_as Delete tree = refl
-  typed_as Purge tree = refl
+  typed_as _ tree = refl
 
   ends_as : (pass : Pass) (tree : ℕ) (ts : List Term) (rows : List Row) → page (sorted tree ts (col 1 0 ∷ []) 0 false (col 0 (limit_place pass)) (given_of pass)) (given_of pass) rows ≡ take n rows
   ends_as Transition tree ts rows = refl
-  ends_as Validate tree ts rows = refl
-  ends_as Assimilate tree ts rows = refl
-  ends_as Delete tree ts rows = refl
-  ends_as Purge tree ts rows = refl
+  ends_as _ tree ts rows = refl
 
   passes_as : (pass : Pass) (tree : ℕ) (p : ℕ × Marks) → passing (pass_asked pass) (pass_fits pass) (given_of pass) tree (stored_marks p) ≡ is_marked pass by p.1
   passes_as Transition tree p = has_come p.1.wake by

@@ -1,9 +1,9 @@
 -- The workunits that the queue has for a pass, and how they are found by their numbers.
-use Rattle.wu_schema.proofs.Words.{AllByRecursion, Bool, Database, Fault, IfErr, List, NotAProject, None, Ok, Option, Result, Row, Refines, Some, Workunit, World, [], ap, arith, column, cond, eq-eqb, false, filter, filter-map, find, get_or, inl, inr, length, length-map, map, map-map, nat_le, nat_tests, ne_eqb, number, refl, subst, sym, take, ℕ, ⊤, ◌+◌, ◌<◌, ◌==◌, ◌∙◌, ◌∷◌, ◌≡◌, ◌≢◌, ◌≤◌, ◌⊎◌}
+use Rattle.wu_schema.proofs.Words.{AllByRecursion, Bool, Database, Fault, IfErr, List, NotAProject, None, Ok, Option, Result, Row, Refines, Some, Workunit, World, [], ap, arith, column, cond, eq-eqb, false, filter, filter-map, find, get_or, inl, inr, length, length-map, map, map-map, nat_le, nat_tests, ne_eqb, number, refl, subst, sym, take, ℕ, ⊤, ◌+◌, ◌<◌, ◌==◌, ◌∙◌, ◌∷◌, ◌≡◌, ◌≢◌, ◌⊎◌}
 use Rattle.std.specs.Prelude.{All, Err, IfSome, IsErrAnd, MatchResult}
 use Rattle.wu_core.specs.declared.fault.Fault.TheVariants.{Memory}
 use Rattle.std.specs.Option.{option_map_or}
-use Rattle.std.proofs.lemmas.List.{get_or-map, length-take, take-map}
+use Rattle.std.proofs.lemmas.List.{get_or-map, take-map}
 use Rattle.std.proofs.lemmas.List.Elements.{All-filter, All-from_recursion, All-take}
 use Rattle.wu_core.specs.Storable.{AreStorable, IsStorable}
 use Rattle.wu_core.specs.declared.marks.Marks.{Marks}
@@ -75,11 +75,8 @@ no_purge pass (inr (inr (inl it))) is = let no : Assimilate ≡ Purge = sym it �
 no_purge pass (inr (inr (inr it))) is = let no : Delete ≡ Purge = sym it ∙ is in cc
 
 pub now_due : (pass : Pass) (now age : ℕ) → pass ≢ Purge → (m : Marks) → is_marked pass now m ≡ selects pass now age m
-now_due Transition now age other m = refl
-now_due Validate now age other m = refl
-now_due Assimilate now age other m = refl
-now_due Delete now age other m = refl
 now_due Purge now age other m = absurd (other refl)
+now_due _ now age other m = refl
 
 -- by the marks of a world's workunits they are the numbers of those that the pass takes
 pub numbers_chosen : (pass : Pass) (now age limit : ℕ) (world : World) → first_marked limit (selects pass now age) (marked world) ≡ map number_row (chosen pass now age limit world)
@@ -114,9 +111,6 @@ module _ (db : Database) (world : World) (s : Refines db world) (pass : Pass) (n
 
   pub chosen_storable : AreStorable world → All IsStorable (chosen pass now age limit world)
   chosen_storable storable = All-take IsStorable limit (filter (changes pass now age) world.workunits) (All-filter (changes pass now age) IsStorable world.workunits storable)
-
-  pub chosen_few : length (map number_row (chosen pass now age limit world)) ≤ limit
-  chosen_few = omega (arith, length-map (chosen pass now age limit world) number_row, length-take limit (filter (changes pass now age) world.workunits))
 
 -- ---- a row that was read
 

@@ -1,5 +1,5 @@
 -- What the SELECTs without an order answer of the world that the tables stand for.
-use Rattle.wu_schema.proofs.Words.{Answers, Archived, Binary, Bool, Import, ImportKind, IsAscending, IsPermutation, IsPermutation-filter, IsPermutation-map, IsPermutation-trans, List, None, Option, Row, Shown, Some, Refines, State, Table, Text, Workunit, World, [], and_from, and_parts, ap, arith, bytes_eq, cases_Bool, codes, column, cond, drop, enumerate_from, eq-eqb, eqb-true, equal, eval_all, false, false_from_ne_true, filter, filter-map, find, holds, import_cells, import_kind_code, inl, inr, is_import, length, length-map, length_permutation, list_all, list_any, map, map-map, not, number, one_permutation, option_map, option_to_list, project_at, refl, stored_archived, stored_workunit, subst, suc, sym, true, workunit_row, ℕ, ◌&&◌, ◌+◌, ◌==◌, ◌||◌, ◌∙◌, ◌∷◌, ◌≡◌, ◌≤◌}
+use Rattle.wu_schema.proofs.Words.{Answers, Archived, Binary, Bool, Import, ImportKind, IsAscending, IsPermutation, IsPermutation-filter, IsPermutation-map, IsPermutation-trans, List, None, Option, Row, Shown, Some, Refines, State, Table, Text, Workunit, World, [], and_from, and_parts, ap, arith, bytes_eq, cases_Bool, codes, column, cond, drop, enumerate_from, eq-eqb, eqb-true, equal, eval_all, false, false_from_ne_true, filter, filter-map, find, holds, import_cells, import_kind_code, inl, inr, is_import, length, length-map, length_permutation, list_all, list_any, map, map-map, not, number, one_permutation, option_map, option_to_list, project_at, refl, stored_archived, stored_workunit, subst, suc, sym, true, workunit_row, ℕ, ◌&&◌, ◌+◌, ◌==◌, ◌||◌, ◌∙◌, ◌∷◌, ◌≡◌, ◌≤◌, HoldsAll}
 use Rattle.wu_store.specs.Answers.{has_name, kept_of, next_row, row_named, row_numbered, was_archived}
 use Rattle.wu_schema.specs.Stored.{kept_cells}
 use Rattle.wu_schema.proofs.AnswerLemmas.{answers_are, meeting, showing, shown_answers}
@@ -32,6 +32,17 @@ module _ (p : Part) (q : Asked) (fits : (tree : ℕ) → Fits (name_of p) (table
 -- rows that are stored for some values: those that pass are stored for those that do
 pub kept_mapped : {X : Type 0} (p : Row → Bool) (q : X → Bool) (f : X → Row) (xs : List X) → ((x : X) → p (f x) ≡ q x) → filter p (map f xs) ≡ map f (filter q xs)
 kept_mapped p q f xs same = filter-map p f xs ∙ ap (map f) (filter_same _ q xs (λ x has. same x))
+
+-- where the cells behind the rowids are those of some values, in some order: what is shown of the rows that pass is what is
+-- shown of the values that do
+pub cells_shown : {X : Type 0} (cells row : X → Row) (q : X → Bool) (kept : Row → Bool) (shown : Row → Row) (p : Row → Bool) (shows : Row → Row) → ((r : Row) → p r ≡ kept (drop 1 r)) → ((r : Row) → shows r ≡ shown (drop 1 r))
+    → ((x : X) → kept (cells x) ≡ q x) → ((x : X) → shown (cells x) ≡ row x) → (xs : List X) (rows : List Row) → HoldsAll rows (map cells xs) → (answer : List Row) → IsPermutation (map shows (filter p rows)) answer → IsPermutation (map row (filter q xs)) answer
+cells_shown cells row q kept shown p shows tests seen passes is xs rows h answer found =
+    let behind : map shows (filter p rows) ≡ map shown (filter kept (map (drop 1) rows)) =
+    (λ i. map (λ r. seen r i) (filter (λ r. tests r i) rows)) ∙ sym (map-map shown (drop 1) (filter (λ r. kept (drop 1 r)) rows)) ∙ ap (map shown) (sym (filter-map kept (drop 1) rows)) in
+    let listed : map shown (filter kept (map cells xs)) ≡ map row (filter q xs) = ap (map shown) (kept_mapped kept q cells xs passes) ∙ map-map shown cells (filter q xs) ∙ (λ i. map (λ x. is x i) (filter q xs)) in
+    let permuted = IsPermutation-map shown _ _ (IsPermutation-filter kept (map cells xs) (map (drop 1) rows) h.same) in
+    subst (λ rs. IsPermutation rs answer) listed (IsPermutation-trans _ _ _ permuted (subst (λ rs. IsPermutation rs answer) behind found))
 
 any_kept : {X : Type 0} (q : X → Bool) (xs : List X) → not (length (filter q xs) == 0) ≡ list_any q xs
 any_kept q [] = refl
@@ -141,16 +152,9 @@ shows_cells : (kind : ℕ) (name : List ℕ) (r : Row) → eval_all import_shows
 shows_cells kind name [] = refl
 shows_cells kind name (v ∷ r) = refl
 
-cells_kept : (kind : ℕ) (name : List ℕ) (rows : List Row) → showing import_shows (number kind ∷ Text name ∷ []) (meeting import_tests (number kind ∷ Text name ∷ []) rows) ≡ map kept_in (filter (is_kept kind name) (map (drop 1) rows))
-cells_kept kind name rows =
-    (λ i. map (λ r. shows_cells kind name r i) (filter (λ r. tests_cells kind name r i) rows)) ∙ sym (map-map kept_in (drop 1) (filter (λ r. is_kept kind name (drop 1 r)) rows)) ∙ ap (map kept_in) (sym (filter-map (is_kept kind name) (drop 1) rows))
-
-imports_kept : (kind : ImportKind) (name : List ℕ) (imports : List Import) → map kept_in (filter (is_kept (import_kind_code kind) name) (map import_cells imports)) ≡ map kept_cells (filter (is_import kind name) imports)
-imports_kept kind name imports = ap (map kept_in) (kept_mapped _ (is_import kind name) import_cells imports tested) ∙ map-map kept_in import_cells (filter (is_import kind name) imports)
-  where
-    tested : (a : Import) → is_kept (import_kind_code kind) name (import_cells a) ≡ is_import kind name a
-    tested a = ap (λ b. b && (equal Binary (Text a.name) (Text name) && true)) (number_equal (import_kind_code a.kind) (import_kind_code kind))
-        ∙ ap (λ b. (import_kind_code a.kind == import_kind_code kind) && b) (one_test _ ∙ text_equal a.name name)
+tested_import : (kind : ImportKind) (name : List ℕ) (a : Import) → is_kept (import_kind_code kind) name (import_cells a) ≡ is_import kind name a
+tested_import kind name a = ap (λ b. b && (equal Binary (Text a.name) (Text name) && true)) (number_equal (import_kind_code a.kind) (import_kind_code kind))
+    ∙ ap (λ b. (import_kind_code a.kind == import_kind_code kind) && b) (one_test _ ∙ text_equal a.name name)
 
 -- of imports that stand once, at most one has a kind and a name
 at_most_one : (kind : ImportKind) (name : List ℕ) (imports : List Import) → IsAscending (λ (a b : Import). is_import a.kind a.name b ≡ false) imports → length (filter (is_import kind name) imports) ≤ 1
@@ -164,11 +168,6 @@ module _ (old new : State) (world : World) (s : Refines old.now world) (kind : I
   pub import_found : Shown import_asked.text (number (import_kind_code kind) ∷ Text name ∷ []) old new rows → rows ≡ kept_of kind name world
   import_found h =
       let code = import_kind_code kind in
-      let params : Row = number code ∷ Text name ∷ [] in
-      let stored = old.now.trees s.trees.import in
-      let all = asked_rows Imports import_asked import_fits old new world s tt params rows refl h in
-      let kept : IsPermutation (map kept_in (filter (is_kept code name) (map import_cells world.imports))) (map kept_in (filter (is_kept code name) (map (drop 1) stored))) =
-      IsPermutation-map kept_in _ _ (IsPermutation-filter (is_kept code name) (map import_cells world.imports) (map (drop 1) stored) s.rows.imports.same) in
-      let found : IsPermutation (kept_of kind name world) rows =
-      subst (λ xs. IsPermutation xs rows) (imports_kept kind name world.imports) (IsPermutation-trans _ _ _ kept (subst (λ xs. IsPermutation xs rows) (cells_kept code name stored) all)) in
-      only_answer kept_cells (filter (is_import kind name) world.imports) rows (at_most_one kind name world.imports s.rows.imported_once) found
+      let all = asked_rows Imports import_asked import_fits old new world s tt (number code ∷ Text name ∷ []) rows refl h in
+      only_answer kept_cells (filter (is_import kind name) world.imports) rows (at_most_one kind name world.imports s.rows.imported_once)
+      (cells_shown import_cells kept_cells (is_import kind name) (is_kept code name) kept_in _ _ (tests_cells code name) (shows_cells code name) (tested_import kind name) (λ a. refl) world.imports (old.now.trees s.trees.import) s.rows.imports rows all)

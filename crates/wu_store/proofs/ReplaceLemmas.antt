@@ -1,5 +1,5 @@
 -- A workunit is replaced where it stands: its row, its instances one by one, and its marks.
-use Rattle.wu_schema.proofs.Words.{AllByRecursion, Bool, Database, Instance, List, None, Ok, Option, Refines, Result, Some, Transaction, Ghosts, Workunit, World, [], ap, arith, cases_Bool, eq-eqb, eqb-true, false, find, get_or, if◌then◌else◌, inl, inr, length, map, ne_eqb, refl, slice_get, state, suc, sym, true, zero, ℕ, ◌++◌, ◌<◌, ◌==◌, ◌∙◌, ◌∷◌, ◌≡◌, ◌≤◌}
+use Rattle.wu_schema.proofs.Words.{AllByRecursion, Bool, Database, Instance, List, None, Option, Refines, Some, Workunit, World, [], ap, arith, cases_Bool, eq-eqb, eqb-true, false, find, get_or, if◌then◌else◌, inl, inr, length, map, ne_eqb, refl, slice_get, suc, sym, true, zero, ℕ, ◌++◌, ◌<◌, ◌==◌, ◌∙◌, ◌∷◌, ◌≡◌, ◌≤◌}
 use Rattle.std.proofs.Common.{Bor, option_map}
 use Rattle.std.proofs.lemmas.Option.{slice_get-get_or}
 use Rattle.std.specs.Prelude.{slice_set}
@@ -7,8 +7,6 @@ use Rattle.std.specs.Slice.{IsItemAt}
 use Rattle.wu_core.specs.Storable.{bare}
 use Rattle.wu_core.specs.declared.marks.Marks.{Marks}
 use Rattle.wu_rules.specs.Marks.{marks}
-use Rattle.wu_schema.specs.Calls.{StatementFrame, TransactionFrame}
-use Rattle.wu_schema.proofs.CallLemmas.{ok_on, part_none, part_then}
 use Rattle.wu_schema.proofs.QuietLemmas.{same_some}
 use Rattle.wu_store.specs.Answers.{numbered}
 use Rattle.wu_store.specs.Changes.{HasInstances, keeping, put_at, with_instance, with_put, with_replaced, with_row, with_set}
@@ -17,25 +15,6 @@ use Rattle.wu_store.specs.Queues.{with_set_marks}
 use Rattle.wu_store.specs.StandsFor.{marked}
 use Rattle.wu_store.proofs.PlacedLemmas.{Rises, world_rises}
 use Rattle.wu_store.proofs.SetInstance.{found_number}
-
--- ---- frames
-
-module _ {S : Type 0} (g : Ghosts S) (a b : Transaction S) where
-  -- nothing was done
-  pub works_none : {T E : Type 0} (x : T) → TransactionFrame {E = E} g a a (Ok x)
-  works_none x = record { same_reference = refl; part = part_none (state g a.conn.now); stays = λ clean within. within }
-
-  -- one statement
-  pub works_once : {T E : Type 0} (r : Result T E) → StatementFrame g a b r → TransactionFrame g a b r
-  works_once r one = record { same_reference = one.same_reference; part = one.part; stays = λ clean. ok_on r _ _ (λ inside within. inside) (one.inside clean) }
-
-  -- what was done, and what was done then
-  pub works_then : {T U E : Type 0} (c : Transaction S) (x : T) → TransactionFrame {E = E} g a b (Ok x) → (r : Result U E) → TransactionFrame g b c r → TransactionFrame g a c r
-  works_then c x one r two = record {
-    same_reference = two.same_reference ∙ one.same_reference;
-    part = part_then (state g a.conn.now) (state g b.conn.now) (state g c.conn.now) one.part two.part;
-    stays = λ clean. ok_on r _ _ (λ stay within. stay (one.stays (omega (arith, two.part.survives.clean, clean)) within)) (two.stays clean);
-  }
 
 -- ---- the workunit of a number, in a list in order of number
 

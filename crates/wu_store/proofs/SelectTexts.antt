@@ -131,44 +131,21 @@ mark_tests Purge = (5, compare.Ge, 0) ∷ (5, compare.Le, 1) ∷ []
 
 abbrev pub mark_parameters : Pass → List Name
 mark_parameters Transition = codes "?1" ∷ codes "?2" ∷ codes "?3" ∷ []
-mark_parameters Validate = codes "?1" ∷ codes "?2" ∷ []
-mark_parameters Assimilate = codes "?1" ∷ codes "?2" ∷ []
-mark_parameters Delete = codes "?1" ∷ codes "?2" ∷ []
 mark_parameters Purge = codes "?1" ∷ codes "?2" ∷ codes "?3" ∷ []
+mark_parameters _ = codes "?1" ∷ codes "?2" ∷ []
 
 abbrev pub limit_place : Pass → ℕ
 limit_place Transition = 2
-limit_place Validate = 1
-limit_place Assimilate = 1
-limit_place Delete = 1
 limit_place Purge = 2
+limit_place _ = 1
 
 abbrev pub pass_asked : Pass → Asked
 pass_asked pass = marked_asked (marked_text pass) (mark_parameters pass) (mark_tests pass) (limit_place pass)
 
-pub wake_fits : (tree : ℕ) → Fits (codes "queue") (queue_at tree) (pass_asked Transition)
-unfolding everything
-wake_fits tree = record { shown = refl; tests = refl; strict = refl; order = refl; height = (697, refl); few = omega arith; limit = λ schema. refl; read = refl; typed = refl }
-
-pub validate_fits : (tree : ℕ) → Fits (codes "queue") (queue_at tree) (pass_asked Validate)
-unfolding everything
-validate_fits tree = record { shown = refl; tests = refl; strict = refl; order = refl; height = (698, refl); few = omega arith; limit = λ schema. refl; read = refl; typed = refl }
-
-pub assimilate_fits : (tree : ℕ) → Fits (codes "queue") (queue_at tree) (pass_asked Assimilate)
-unfolding everything
-assimilate_fits tree = record { shown = refl; tests = refl; strict = refl; order = refl; height = (698, refl); few = omega arith; limit = λ schema. refl; read = refl; typed = refl }
-
-pub delete_fits : (tree : ℕ) → Fits (codes "queue") (queue_at tree) (pass_asked Delete)
-unfolding everything
-delete_fits tree = record { shown = refl; tests = refl; strict = refl; order = refl; height = (698, refl); few = omega arith; limit = λ schema. refl; read = refl; typed = refl }
-
-pub purge_fits : (tree : ℕ) → Fits (codes "queue") (queue_at tree) (pass_asked Purge)
-unfolding everything
-purge_fits tree = record { shown = refl; tests = refl; strict = refl; order = refl; height = (697, refl); few = omega arith; limit = λ schema. refl; read = refl; typed = refl }
-
 pub pass_fits : (pass : Pass) (tree : ℕ) → Fits (codes "queue") (queue_at tree) (pass_asked pass)
-pass_fits Transition tree = wake_fits tree
-pass_fits Validate tree = validate_fits tree
-pass_fits Assimilate tree = assimilate_fits tree
-pass_fits Delete tree = delete_fits tree
-pass_fits Purge tree = purge_fits tree
+unfolding everything
+pass_fits Transition tree = record { shown = refl; tests = refl; strict = refl; order = refl; height = (697, refl); few = omega arith; limit = λ schema. refl; read = refl; typed = refl }
+pass_fits Validate tree = record { shown = refl; tests = refl; strict = refl; order = refl; height = (698, refl); few = omega arith; limit = λ schema. refl; read = refl; typed = refl }
+pass_fits Assimilate tree = record { shown = refl; tests = refl; strict = refl; order = refl; height = (698, refl); few = omega arith; limit = λ schema. refl; read = refl; typed = refl }
+pass_fits Delete tree = record { shown = refl; tests = refl; strict = refl; order = refl; height = (698, refl); few = omega arith; limit = λ schema. refl; read = refl; typed = refl }
+pass_fits Purge tree = record { shown = refl; tests = refl; strict = refl; order = refl; height = (697, refl); few = omega arith; limit = λ schema. refl; read = refl; typed = refl }

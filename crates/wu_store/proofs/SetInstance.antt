@@ -16,6 +16,8 @@ use Rattle.wu_schema.proofs.SetTexts.{SetBy, SetFits}
 use Rattle.wu_schema.proofs.StandsLemmas.{holds_still, is_there}
 use Rattle.wu_store.specs.Answers.{numbered}
 use Rattle.wu_store.specs.Changes.{and_set, with_set}
+use Rattle.sqlite_rules.proofs.ListLemmas.{has_kept}
+use Rattle.wu_store.proofs.KeyedLemmas.{map_stays}
 use Rattle.wu_store.proofs.ChangeLemmas.{cast_number, cast_number_or_null, cast_text_or_null}
 use Rattle.wu_store.proofs.EqualLemmas.{number_equal}
 use Rattle.wu_store.proofs.FallLemmas.{has_own}
@@ -158,22 +160,6 @@ module _ (w n : ℕ) where
     all_set [] = refl
     all_set (v ∷ vs) = map-append set_cells (instances_of v) (flat_map instances_of vs) ∙ ap (λ cs. cs ++ map set_cells (flat_map instances_of vs)) (of_one v) ∙ ap (λ cs. instances_of (and_set w n i v) ++ cs) (all_set vs)
 
-    classes_stay : (ws : List Workunit) → map stored_class (map (and_set w n i) ws) ≡ map stored_class ws
-    classes_stay [] = refl
-    classes_stay (v ∷ vs) = ap (λ rs. stored_class (and_set w n i v) ∷ rs) (classes_stay vs) ∙ ap (λ r. r ∷ map stored_class vs) (one (v.number == w))
-      where
-        one : (b : Bool) → stored_class (if b then record v { instances = slice_set v.instances n i } else v) ≡ stored_class v
-        one true = refl
-        one false = refl
-
-    rows_stay : (ws : List Workunit) → map stored_workunit (map (and_set w n i) ws) ≡ map stored_workunit ws
-    rows_stay [] = refl
-    rows_stay (v ∷ vs) = ap (λ rs. stored_workunit (and_set w n i v) ∷ rs) (rows_stay vs) ∙ ap (λ r. r ∷ map stored_workunit vs) (one (v.number == w))
-      where
-        one : (b : Bool) → stored_workunit (if b then record v { instances = slice_set v.instances n i } else v) ≡ stored_workunit v
-        one true = refl
-        one false = refl
-
 module _ (old new : State) (world : World) (s : Refines old.now world) (w n : ℕ) (i : Instance) (u : Workunit) (is : numbered w world ≡ Some u) (low : n < length u.instances) (count : ℕ) (ran : Executes instance_set.text (instance_cells w n i) old new (Ok count)) where
   abbrev tree : ℕ
   tree = s.trees.result
@@ -252,15 +238,10 @@ module _ (old new : State) (world : World) (s : Refines old.now world) (w n : �
           rw found refl
       go false off = elim (cases_Bool (mine r)) [
         | inl on ↦
-            let among : Has (x ∷ []) r = subst (λ rs. Has rs r) one_row.1 (kept_in rows there on) in
+            let among : Has (x ∷ []) r = subst (λ rs. Has rs r) one_row.1 (has_kept mine rows r there on) in
             absurd (elim among [ inl one ↦ (let e = sym off ∙ ap (has_rowid id) one ∙ own in cc) | inr none ↦ none ])
         | inr other ↦ rw other refl
       ]
-        where
-          kept_in : (rs : List Row) → Has rs r → mine r ≡ true → Has (filter mine rs) r
-          kept_in [] h on = absurd h
-          kept_in (y ∷ ys) (inl one) on = let found : mine y ≡ true = ap mine (sym one) ∙ on in rw found (inl one)
-          kept_in (y ∷ ys) (inr more) on = elim (cases_Bool (mine y)) [ inl too ↦ rw too (inr (kept_in ys more on)) | inr out ↦ rw out (kept_in ys more on) ]
 
   holds_set : HoldsAll (replaced id new_row rows) (flat_map instances_of (map (and_set w n i) world.workunits))
   holds_set = record {
@@ -276,8 +257,8 @@ module _ (old new : State) (world : World) (s : Refines old.now world) (w n : �
     where
       carry : (p : Part) → is_part Instances p ≡ false → (rs : List Row) → Holds p rs world → Holds p rs (with_set w n i world)
       carry Instances off rs h = absurd (cc)
-      carry Workunits off rs h = subst (ListsAll rs) (sym (rows_stay w n i world.workunits)) h
-      carry WorkClasses off rs h = subst (ListsAll rs) (sym (classes_stay w n i world.workunits)) h
+      carry Workunits off rs h = subst (ListsAll rs) (sym (map_stays (λ (v : Workunit). v.number == w) (λ v. record v { instances = slice_set v.instances n i }) stored_workunit (λ v on. refl) world.workunits)) h
+      carry WorkClasses off rs h = subst (ListsAll rs) (sym (map_stays (λ (v : Workunit). v.number == w) (λ v. record v { instances = slice_set v.instances n i }) stored_class (λ v on. refl) world.workunits)) h
       carry _ off rs h = h
 
   pub set_leaves : (marked : List (ℕ × Marks)) → HasQueue old.now marked → HasQueue new.now marked

@@ -1,5 +1,5 @@
 -- What the statements that set a row do to the world and to the queue.
-use Rattle.wu_schema.proofs.Words.{Bool, Executes, HoldsAll, Instance, List, ListsAll, Null, Ok, Refines, Row, State, Workunit, World, [], ap, arith, cases_Bool, cast_row, codes, col, enumerate_from, eqb-true, eval_all, everything, false, flat_map, has_rowid, if◌then◌else◌, inl, inr, instance_cells, instances_of, length, list_any, lit, map, number, pos, refl, rowid, class_row, stored_class, stored_workunit, subst, sym, true, workunit_at, workunit_row, ℕ, ◌==◌, ◌++◌, ◌∙◌, ◌∷◌, ◌≡◌}
+use Rattle.wu_schema.proofs.Words.{Bool, Executes, HoldsAll, Instance, List, ListsAll, Null, Ok, Refines, Row, State, Workunit, World, [], ap, arith, cases_Bool, cast_row, codes, col, enumerate_from, eqb-true, eval_all, everything, false, has_rowid, if◌then◌else◌, inl, inr, instance_cells, instances_of, length, list_any, lit, map, number, pos, refl, rowid, class_row, stored_class, stored_workunit, subst, sym, true, workunit_at, workunit_row, ℕ, ◌==◌, ◌∙◌, ◌∷◌, ◌≡◌}
 use Rattle.sqlite_sql.specs.declared.ops.CompareOp.TheVariants as compare
 use Rattle.wu_core.specs.declared.marks.Marks.{Marks}
 use Rattle.wu_schema.specs.Queue.{HasQueue}
@@ -11,8 +11,9 @@ use Rattle.wu_schema.proofs.Parts.{Holds, Instances, Part, WorkClasses, Workunit
 use Rattle.wu_schema.proofs.QueueLemmas.{queue_apart, queue_has, queue_listed, queue_self, queue_steady, queue_still, world_kept}
 use Rattle.wu_schema.proofs.SetTexts.{SetBy, SetFits}
 use Rattle.wu_schema.proofs.StandsLemmas.{is_there, lists_still}
-use Rattle.wu_store.specs.Changes.{HasNumber, and_row, with_row}
+use Rattle.wu_store.specs.Changes.{HasNumber, and_row, with_row, keeping}
 use Rattle.wu_store.specs.Queues.{with_set_marks}
+use Rattle.wu_store.proofs.KeyedLemmas.{flat_map_stays, map_stays}
 use Rattle.wu_store.proofs.ChangeLemmas.{cast_number, cast_number_or_null}
 use Rattle.wu_store.proofs.DeleteTexts.{by_number}
 use Rattle.wu_store.proofs.EqualLemmas.{number_tied}
@@ -95,22 +96,6 @@ stored_set w (v ∷ vs) = ap (λ r. r ∷ map stored_workunit (in_its_place (λ 
     one true = refl
     one false = refl
 
-instances_set : (w : Workunit) (ws : List Workunit) → flat_map instances_of (map (and_row w) ws) ≡ flat_map instances_of ws
-instances_set w [] = refl
-instances_set w (v ∷ vs) = ap (λ is. is ++ flat_map instances_of (map (and_row w) vs)) (one (v.number == w.number) refl) ∙ ap (λ is. instances_of v ++ is) (instances_set w vs)
-  where
-    one : (b : Bool) → (v.number == w.number) ≡ b → instances_of (if b then record w { instances = v.instances; class = v.class } else v) ≡ instances_of v
-    one true same = ap (λ n. map (λ (p : ℕ × Instance). instance_cells n p.0 p.1) (enumerate_from 0 v.instances)) (sym (eqb-true v.number w.number same))
-    one false other = refl
-
-classes_set : (w : Workunit) (ws : List Workunit) → map stored_class (map (and_row w) ws) ≡ map stored_class ws
-classes_set w [] = refl
-classes_set w (v ∷ vs) = ap (λ r. r ∷ map stored_class (map (and_row w) vs)) (one (v.number == w.number) refl) ∙ ap (λ rs. stored_class v ∷ rs) (classes_set w vs)
-  where
-    one : (b : Bool) → (v.number == w.number) ≡ b → stored_class (if b then record w { instances = v.instances; class = v.class } else v) ≡ stored_class v
-    one true same = ap (λ n. class_row (n, v.class)) (sym (eqb-true v.number w.number same))
-    one false other = refl
-
 module _ (old new : State) (world : World) (s : Refines old.now world) (w : Workunit) (there : HasNumber w.number world.workunits) (count : ℕ) (ran : Executes workunit_set.text (workunit_row w) old new (Ok count)) where
   abbrev tree : ℕ
   tree = s.trees.workunit
@@ -144,8 +129,8 @@ module _ (old new : State) (world : World) (s : Refines old.now world) (w : Work
     where
       carry : (p : Part) → is_part Workunits p ≡ false → (rs : List Row) → Holds p rs world → Holds p rs (with_row w world)
       carry Workunits off rs h = absurd (cc)
-      carry Instances off rs h = subst (HoldsAll rs) (sym (instances_set w world.workunits)) h
-      carry WorkClasses off rs h = subst (ListsAll rs) (sym (classes_set w world.workunits)) h
+      carry Instances off rs h = subst (HoldsAll rs) (sym (flat_map_stays (λ (v : Workunit). v.number == w.number) (λ v. keeping v w) instances_of (λ v on. ap (λ n. map (λ (p : ℕ × Instance). instance_cells n p.0 p.1) (enumerate_from 0 v.instances)) (sym (eqb-true v.number w.number on))) world.workunits)) h
+      carry WorkClasses off rs h = subst (ListsAll rs) (sym (map_stays (λ (v : Workunit). v.number == w.number) (λ v. keeping v w) stored_class (λ v on. ap (λ n. class_row (n, v.class)) (sym (eqb-true v.number w.number on))) world.workunits)) h
       carry _ off rs h = h
 
   pub row_leaves : (marked : List (ℕ × Marks)) → HasQueue old.now marked → HasQueue new.now marked

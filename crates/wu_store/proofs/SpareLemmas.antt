@@ -1,5 +1,5 @@
 -- What the statements of a project leave of the tables of other programs.
-use Rattle.wu_schema.proofs.Words.{Database, Executes, HasNamed, List, Ok, Refines, Row, State, Table, Term, Text, World, [], arith, codes, number, ℕ, ◌∷◌, ◌≡◌}
+use Rattle.wu_schema.proofs.Words.{Database, Executes, HasNamed, List, Ok, Refines, Row, State, Table, Text, World, [], arith, codes, number, ℕ, ◌∷◌, ◌≡◌}
 use Rattle.sqlite_rules.specs.Lists.{Has}
 use Rattle.wu_schema.specs.Made.{archived_table, host_class_table, import_table, project_table, result_table, workunit_class_table, workunit_table}
 use Rattle.wu_schema.specs.Others.{AreThere, Spares, SparesOthers, SparesWith, table_names, tables_of_workunits}
@@ -18,8 +18,7 @@ use Rattle.wu_store.proofs.InsertTexts.{archived_fits, archived_put, import_fits
 use Rattle.wu_store.proofs.SetEffect.{sets_by}
 use Rattle.wu_store.proofs.SetInstance.{instance_set, instance_set_fits}
 use Rattle.wu_store.proofs.SetLemmas.{marks_set, marks_set_fits, workunit_set, workunit_set_fits}
-use Rattle.wu_store.proofs.UpdateEffect.{Sets, updates_project}
-use Rattle.wu_store.proofs.UpdateLemmas.{SetsColumn}
+use Rattle.wu_store.proofs.ProjectEffect.{SetsProject}
 
 -- ---- rows that are added
 
@@ -47,13 +46,11 @@ module _ (params : Row) (old new : State) (count : ℕ) where
 
 -- ---- rows that are set
 
-set_spares : (old new : Database) (name : List ℕ) (table : Table) → HasNamed old.schema name table → Has table_names table.name → (test project : List Term) (params : Row) → Sets old new table test project params → (new.schema ≡ old.schema) × SparesOthers old new
-set_spares old new name table has ours test project params sets =
-    others_still old new sets.schema (λ t is. sets.others t is.there (others_apart old.schema t name table is has ours) (others_calm old.schema t table.tree is))
-
 module _ (old new : State) (table : ℕ → Table) (from : ℕ) (q : SetBy) (fits : (tree : ℕ) → SetFits (table tree) from q) (params : Row) (count : ℕ) (ran : Executes q.text params old new (Ok count)) where
   by_key : (tree : ℕ) → HasNamed old.now.schema (table tree).name (table tree) → Has table_names (table tree).name → (new.now.schema ≡ old.now.schema) × SparesOthers old.now new.now
-  by_key tree has ours = set_spares old.now new.now (table tree).name (table tree) has ours _ q.made params (sets_by old new (table tree) has.0 has.1 (is_there old.now.schema _ _ has) from q (fits tree) params count ran)
+  by_key tree has ours =
+      let sets = sets_by old new (table tree) has.0 has.1 (is_there old.now.schema _ _ has) from q (fits tree) params count ran in
+      others_still old.now new.now sets.schema (λ t is. sets.others t is.there (others_apart old.now.schema t (table tree).name (table tree) is has ours) (others_calm old.now.schema t (table tree).tree is))
 
 module _ (params : Row) (old new : State) (count : ℕ) where
   pub spares_set_workunit : Executes workunit_set.text params old new (Ok count) → Spares workunit_table old.now new.now
@@ -68,11 +65,8 @@ module _ (params : Row) (old new : State) (count : ℕ) where
   pub spares_set_class : Executes class_set.text params old new (Ok count) → Spares workunit_class_table old.now new.now
   spares_set_class ran there = by_key old new workunit_class_at 1 class_set class_set_fits params count ran there.0.0 there.0.1 ours_workunit_class
 
-pub spares_set_project : (text column : List ℕ) (made : List Term) → SetsColumn text column made → (n : ℕ) (old new : State) (count : ℕ) → Executes text (number n ∷ []) old new (Ok count) → Spares project_table old.now new.now
-spares_set_project text column made sets n old new count ran there =
-    let tree = there.0.0 in
-    let has = there.0.1 in
-    set_spares old.now new.now (codes "project") (project_at tree) has ours_project [] made _ (updates_project text column made sets old new has.0 tree has.1 has.2 (is_there old.now.schema _ _ has) _ count ran)
+  pub spares_set_project : (q : SetBy) → SetsProject q → Executes q.text params old new (Ok count) → Spares project_table old.now new.now
+  spares_set_project q fits ran there = by_key old new project_at 0 q fits params count ran there.0.0 there.0.1 ours_project
 
 -- ---- rows that go
 

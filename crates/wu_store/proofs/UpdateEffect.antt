@@ -1,14 +1,11 @@
 -- What UPDATE does to the rows, over any schema.
-use Rattle.wu_schema.proofs.Words.{Answers, Database, Does, Enforced, Executes, Given, Has, HasTable, Int, IsCalm, IsDatabase, IsPermutation, List, Mode, None, Null, Ok, Option, OwnsTree, Program, Row, Some, State, Table, Tally, Term, Update, Written, [], all_has, ap, cast_row, codes, edit_of, false, given, ids_of, length, length-map, map, mode_of, one_permutation, pos, project_at, put_all, refl, runs_as, slice_get, statement_of, subst, sym, tied_itself, understood, value_cmp_total, without_all, ℕ, ℤ, ◌==◌, ◌∙◌, ◌∷◌, ◌≡◌, ◌≢◌}
-use Rattle.sqlite_trees.specs.Tree.{rowid}
+use Rattle.wu_schema.proofs.Words.{Answers, Database, Does, Enforced, Given, Has, HasTable, IsCalm, IsDatabase, IsPermutation, List, Mode, None, Ok, Option, Program, Row, Some, Table, Tally, Term, Update, Written, all_has, ap, cast_row, edit_of, false, given, ids_of, length, length-map, map, put_all, slice_get, subst, sym, without_all, ℕ, ◌==◌, ◌∙◌, ◌≡◌, ◌≢◌}
 use Rattle.wu_schema.specs.Calm.{IsSteady}
 use Rattle.sqlite_rules.specs.Action.{Writes as Edits}
 use Rattle.wu_schema.proofs.EffectLemmas.{went, same_value}
 use Rattle.wu_schema.proofs.QueryLemmas.{plain_query, alone}
 use Rattle.wu_schema.proofs.AnswerLemmas.{answers_are, meeting, showing}
-use Rattle.wu_schema.proofs.CalmLemmas.{calm_bare, stepped}
-use Rattle.wu_store.proofs.UpdateLemmas.{SetsColumn, next_made, next_set, next_text, update_compiles, version_made, version_set, version_set_text}
-use Rattle.wu_schema.proofs.InsertEffect.{cast_null, cast_int, also, no_more}
+use Rattle.wu_schema.proofs.CalmLemmas.{stepped}
 
 -- the rows that an UPDATE finds, each its old rowid and then the new row, and the write that it makes of them
 pub record HasSet (db : Database) (mode : Mode) (params : Row) (q : Program) (table : Table) (after : Database) (tally : Tally) : Type 0 where
@@ -67,44 +64,3 @@ module _ (old new : Database) (limit : Option ℕ) (mode : Mode) (keys : mode.ke
         steady = λ t there other s some. step.steady t there s (ap (λ n. n == 0) news ∙ some) ∙ beside t there other;
         sound = sound;
       }
-
--- a row takes the place of the only one
-put_one : (id : ℤ) (x new : Row) → rowid x ≡ Int id → put_all (without_all (x ∷ []) (id ∷ [])) (new ∷ []) ≡ new ∷ []
-put_one id x new is = rw (is, tied_itself value_cmp_total (Int id)) refl
-
--- ---- an UPDATE of one column of the project
-
-abbrev pub project_row : ℤ → ℤ → Row
-project_row version next = Int (pos 1) ∷ Null ∷ Int version ∷ Int next ∷ []
-
-module _ (text column : List ℕ) (made : List Term) (sets : SetsColumn text column made) (old new : State) (at tree : ℕ) (has : HasTable old.now.schema (codes "project") at (project_at tree))
-    (owns : OwnsTree old.now.schema (project_at tree)) (stands : Has old.now.schema.tables (project_at tree)) (n : ℤ) (count : ℕ) (ran : Executes text (Int n ∷ []) old new (Ok count)) where
-  pub updates_project : Sets old.now new.now (project_at tree) [] made (Int n ∷ [])
-  updates_project =
-      let schema = old.now.schema in
-      let compiles = update_compiles text column made sets schema at tree has in
-      let done = runs_as text (Int n ∷ []) old new schema refl (Update at (alone (plain_query tree [] made))) compiles.is compiles.plain count ran in
-      update_sets old.now new.now old.step_limit (mode_of old) refl done.sound (Int n ∷ []) (statement_of text (understood schema text)) (codes "project") at (project_at tree) has stands [] made done.tally done.changed
-
-  -- the one row is as it was set
-  pub sets_row : (before found after : Row) → showing made (Int n ∷ []) (meeting [] (Int n ∷ []) (before ∷ [])) ≡ (Int (pos 1) ∷ found) ∷ [] → cast_row (project_at tree) found ≡ after → rowid before ≡ Int (pos 1)
-      → old.now.trees tree ≡ before ∷ [] → new.now.trees tree ≡ after ∷ []
-  sets_row before found after shows kept key is =
-      let it = updates_project in
-      let one : it.found ≡ (Int (pos 1) ∷ found) ∷ [] = one_permutation _ it.found (subst (λ rows. IsPermutation rows it.found) shows (subst (λ rows. IsPermutation (showing made (Int n ∷ []) (meeting [] (Int n ∷ []) rows)) it.found) is it.shown)) in
-      it.rows (calm_bare old.now.schema (project_at tree) tree owns refl) ∙ ap (λ rows. resets (project_at tree) rows it.found) is ∙ ap (resets (project_at tree) (before ∷ [])) one
-      ∙ ap (λ r. put_all (without_all (before ∷ []) (pos 1 ∷ [])) (r ∷ [])) kept ∙ put_one (pos 1) before after key
-
--- it has the new number,
-pub sets_next : (old new : State) (at tree : ℕ) (has : HasTable old.now.schema (codes "project") at (project_at tree)) (owns : OwnsTree old.now.schema (project_at tree)) (stands : Has old.now.schema.tables (project_at tree))
-    (n version next : ℤ) (count : ℕ) → Executes next_text (Int n ∷ []) old new (Ok count) → old.now.trees tree ≡ project_row version next ∷ [] → new.now.trees tree ≡ project_row version n ∷ []
-sets_next old new at tree has owns stands n version next count ran =
-    sets_row next_text (codes "next_number") next_made next_set old new at tree has owns stands n count ran (project_row version next) (Int (pos 1) ∷ Null ∷ Int version ∷ Int n ∷ []) (project_row version n) refl
-    (also (cast_int (pos 1)) (also cast_null (also (cast_int version) (also (cast_int n) no_more)))) refl
-
--- or the new version
-pub sets_version : (old new : State) (at tree : ℕ) (has : HasTable old.now.schema (codes "project") at (project_at tree)) (owns : OwnsTree old.now.schema (project_at tree)) (stands : Has old.now.schema.tables (project_at tree))
-    (n version next : ℤ) (count : ℕ) → Executes version_set_text (Int n ∷ []) old new (Ok count) → old.now.trees tree ≡ project_row version next ∷ [] → new.now.trees tree ≡ project_row n next ∷ []
-sets_version old new at tree has owns stands n version next count ran =
-    sets_row version_set_text (codes "version") version_made version_set old new at tree has owns stands n count ran (project_row version next) (Int (pos 1) ∷ Null ∷ Int n ∷ Int next ∷ []) (project_row n next) refl
-    (also (cast_int (pos 1)) (also cast_null (also (cast_int n) (also (cast_int next) no_more)))) refl

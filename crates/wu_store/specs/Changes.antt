@@ -1,7 +1,6 @@
 -- What each change makes of a world.
 use Rattle.std.specs.Prelude.{◌≡◌, ◌≢◌, ℕ, ◌+◌, ◌==◌, true, false, not, List, [], ◌∷◌, ◌++◌, length, map, filter, find, take, drop, suc, slice_get, slice_set, Option, Some, option_map, Result, IsOk, ◌<◌, ◌≤◌, if◌then◌else◌}
 use Rattle.std.specs.List.{enumerate_from, list_any}
-use Rattle.std.specs.Ordering.{nat_cmp, match_ordering}
 use Rattle.sqlite.specs.Order.{Row}
 use Rattle.sqlite.specs.Table.{Table}
 use Rattle.sqlite_schema.specs.declared.schema.Keys.TheVariants.{Enforced}
@@ -21,6 +20,7 @@ use Rattle.wu_schema.specs.Refines.{Refines, HoldsAll, ListsAll, host_of}
 use Rattle.wu_schema.specs.Others.{SparesOthers}
 use Rattle.wu_schema.specs.Queue.{HasQueue}
 use Rattle.wu_store.specs.Answers.{numbered}
+use Rattle.wu_store.specs.Queues.{at_place}
 use Rattle.wu_store.specs.StandsFor.{KnowsClasses, StandsFor, marked as marks_in}
 use Rattle.wu_core.specs.declared.marks.Marks.{Marks}
 use Rattle.wu_schema.specs.Calm.{IsCalm}
@@ -41,8 +41,7 @@ with_workunit w world = record world { workunits = world.workunits ++ w ∷ [] }
 
 -- The workunits with this one at its place in order of number; it replaces the one of its number.
 abbrev pub placed : Workunit → List Workunit → List Workunit
-placed w [] = w ∷ []
-placed w (v ∷ vs) = match_ordering (nat_cmp v.number w.number) (v ∷ placed w vs) (w ∷ vs) (w ∷ v ∷ vs)
+placed w ws = at_place (λ (v : Workunit). v.number) w ws
 
 -- The world with this workunit at its place.
 abbrev pub with_placed : Workunit → World → World

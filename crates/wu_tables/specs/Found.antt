@@ -14,6 +14,7 @@ use Rattle.wu_schema.specs.Tables.{HasNamed, OwnsTree, host_at, queue_at}
 use Rattle.wu_tables.specs.Forms.{table_of}
 use Rattle.wu_tables.specs.Known.{IsTableOf, name_of, rank, table_at}
 use Rattle.wu_tables.specs.declared.known.ProjectTable.{ProjectTable}
+use Rattle.wu_tables.specs.declared.known.ProjectTable.TheVariants.{Host}
 use Rattle.wu_tables.specs.declared.forms.TableForm.{TableForm}
 use Rattle.wu_tables.specs.declared.project.Misfit.{Misfit}
 use Rattle.wu_tables.specs.declared.project.Misfit.TheVariants.{Missing, Altered, HostNames}
@@ -68,6 +69,10 @@ rank_of HostNames = 9
 -- Each table of the version with a place below this one is there as the program makes it.
 abbrev pub AreThereBefore : ℕ → Schema → ℕ → Type 0
 AreThereBefore version schema place = (which : ProjectTable) → rank which < place → (tree : ℕ) × IsThere version schema which tree
+
+-- The table of hosts is there, and each unique index on its names compares their bytes.
+abbrev pub HasBytewiseHosts : ℕ → Schema → Type 0
+HasBytewiseHosts version schema = (tree : ℕ) × IsThere version schema Host tree × AreByBytes schema tree
 
 -- This is the first that is wrong with the schema, in the written order.
 pub record IsFirstAgainst (version : ℕ) (schema : Schema) (misfit : Misfit) : Type 0 where

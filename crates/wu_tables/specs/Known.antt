@@ -1,5 +1,5 @@
 -- The tables of a project, except the queue.
-use Rattle.std.specs.Prelude.{ℕ, List, codes, ⊤}
+use Rattle.std.specs.Prelude.{ℕ, List, [], ◌∷◌, codes, ⊤}
 use Rattle.sqlite.specs.Table.{Table}
 use Rattle.wu_schema.specs.Tables.{IsClassedVersion, archived_at, grant_at, host_at, host_class_at, import_at, project_at, result_at, workunit_at, workunit_class_at}
 use Rattle.wu_tables.specs.declared.known.ProjectTable.{ProjectTable}
@@ -46,3 +46,7 @@ rank Archived = 5
 rank Import = 6
 rank HostClass = 7
 rank WorkunitClass = 8
+
+-- The tables in the written order.
+abbrev pub in_order : List ProjectTable
+in_order = Project ∷ Workunit ∷ Result ∷ Grant ∷ Host ∷ Archived ∷ Import ∷ HostClass ∷ WorkunitClass ∷ []

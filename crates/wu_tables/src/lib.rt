@@ -10,6 +10,6 @@ mod queue;
 mod upgrades;
 
 pub use known::ProjectTable;
-pub use project::{Misfit, Trees, project_trees};
+pub use project::{Misfit, know_tables};
 pub use queue::queue_tree;
 pub use upgrades::taken_name;

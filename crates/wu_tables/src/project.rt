@@ -1,47 +1,26 @@
 //! The tables of a project, the queue aside.
 
-ghost use Rattle.std.specs.Prelude.{◌≡◌, IfErr, IfOk};
+ghost use Rattle.std.specs.Prelude.{◌≡◌, IfErr, IfOk, OnOk};
 ghost use Rattle.wu_schema.specs.Tables.{HasTables, ProjectTrees};
-ghost use Rattle.wu_tables.specs.Found.{rank_of, IsFirstAgainst, IsThere, StandsAgainst};
+ghost use Rattle.wu_tables.specs.Found.{rank_of, AreThereBefore, HasBytewiseHosts, IsFirstAgainst, IsThere, StandsAgainst};
 ghost use Rattle.wu_tables.specs.Known.{rank};
 
 use crate::known::ProjectTable;
 use crate::lookup::{are_by_bytes, tree_of};
 use sqlite_schema::schema::Schema;
-use std::marker::Model;
 
-/// Where the store put each table.
-#[derive(Drop)]
-pub struct Trees {
-    pub project: u32,
-    pub workunit: u32,
-    pub result: u32,
-    pub grant: u32,
-    pub host: u32,
-    pub archived: u32,
-    pub import: u32,
-    /// 0 if the version has no classes, as is the next field.
-    pub host_class: u32,
-    pub workunit_class: u32,
-}
-
-impl Model for Trees {
-    ghost use Rattle.wu_schema.specs.Tables.{ProjectTrees};
-
-    ghost Value = { ProjectTrees };
-
-    ghost view = { λ trees. record {
-      project = trees.project;
-      workunit = trees.workunit;
-      result = trees.result;
-      grant = trees.grant;
-      host = trees.host;
-      archived = trees.archived;
-      import = trees.import;
-      host_class = trees.host_class;
-      workunit_class = trees.workunit_class;
-    } };
-}
+/// The tables in the written order.
+const IN_ORDER: [ProjectTable; 9] = [
+    ProjectTable::Project,
+    ProjectTable::Workunit,
+    ProjectTable::Result,
+    ProjectTable::Grant,
+    ProjectTable::Host,
+    ProjectTable::Archived,
+    ProjectTable::Import,
+    ProjectTable::HostClass,
+    ProjectTable::WorkunitClass,
+];
 
 /// Why the tables of a project are not in a schema.
 #[derive(Clone, Copy, PartialEq, Eq)]
@@ -77,36 +56,37 @@ fn project_tree(schema: &Schema, version: u64, which: ProjectTable) -> Result<u3
     }
 }
 
-/// Returns where the tables of a project are, or what differs.
-fn find_trees(schema: &Schema, version: u64) -> Result<Trees, Misfit>
-    ensures found { IfOk result (HasTables version schema.now) }
+/// Returns `Ok` if each table of this version is there in its form, or what is wrong with the first that is not.
+fn know_each(schema: &Schema, version: u64) -> Result<(), Misfit>
+    ensures there { OnOk result (AreThereBefore version schema.now 9) }
     ensures told { IfErr result (IsFirstAgainst version schema.now) }
 {
-    let trees = Trees {
-        project: project_tree(schema, version, ProjectTable::Project)?,
-        workunit: project_tree(schema, version, ProjectTable::Workunit)?,
-        result: project_tree(schema, version, ProjectTable::Result)?,
-        grant: project_tree(schema, version, ProjectTable::Grant)?,
-        host: project_tree(schema, version, ProjectTable::Host)?,
-        archived: project_tree(schema, version, ProjectTable::Archived)?,
-        import: project_tree(schema, version, ProjectTable::Import)?,
-        host_class: project_tree(schema, version, ProjectTable::HostClass)?,
-        workunit_class: project_tree(schema, version, ProjectTable::WorkunitClass)?,
-    };
-    if are_by_bytes(schema, trees.host) {
-        Ok(trees)
+    for which in IN_ORDER {
+        project_tree(schema, version, which)?;
+    }
+    Ok(())
+}
+
+/// Returns `Ok` if each unique index on the names of hosts compares their bytes.
+fn know_host_names(schema: &Schema, version: u64) -> Result<(), Misfit>
+    requires { AreThereBefore version schema.now 9 }
+    ensures found { OnOk result (HasBytewiseHosts version schema.now) }
+    ensures told { IfErr result (IsFirstAgainst version schema.now) }
+{
+    let host = project_tree(schema, version, ProjectTable::Host)?;
+    if are_by_bytes(schema, host) {
+        Ok(())
     } else {
         Err(Misfit::HostNames)
     }
 }
 
-/// Returns where the tables of a project of this version are, without the queue. They are found exactly if each is
-/// there in its form and in a tree of its own, and each unique index on the names of hosts compares their bytes. Else
-/// it returns what differs.
-pub fn project_trees(schema: &Schema, version: u64) -> Result<Trees, Misfit>
-    // After `Ok` all tables of this version are in these trees, in their forms, and unique indexes
+/// Returns `Ok` if the tables of a project of this version are there, without the queue: each in its form and in a tree
+/// of its own, and each unique index on the names of hosts compares their bytes. Else it returns what differs.
+pub fn know_tables(schema: &Schema, version: u64) -> Result<(), Misfit>
+    // After `Ok` all tables of this version are in some trees, in their forms, and unique indexes
     // compare hosts' names by bytes.
-    ensures found { IfOk result (HasTables version schema.now) }
+    ensures found { OnOk result ((trees : ProjectTrees) × HasTables version schema.now trees) }
     // A misfit means that no trees have all tables of this version so.
     ensures missing { IfErr result (λ _. (trees : ProjectTrees)
         → HasTables version schema.now trees → ⊥) }
@@ -114,5 +94,6 @@ pub fn project_trees(schema: &Schema, version: u64) -> Result<Trees, Misfit>
     // differs, or a unique index compares hosts' names otherwise; and each table before is there.
     ensures told { IfErr result (IsFirstAgainst version schema.now) }
 {
-    find_trees(schema, version)
+    know_each(schema, version)?;
+    know_host_names(schema, version)
 }

@@ -8,7 +8,7 @@ ghost use Rattle.wu_tables.specs.Upgrades.{upgrade_names, HasFreeNames, IsFirstT
 use sqlite_schema::schema::Schema;
 use wu_core::{CLASS_VERSION, QUEUE_VERSION};
 
-/// The names of what version 1 lacks: the queue, its indexes, and the tables of classes.
+/// The names of what version 1 lacks: the queue and its indexes, and then the tables of classes.
 const AFTER_FIRST: [&str; 8] = [
     "queue",
     "queue_validate",
@@ -20,8 +20,8 @@ const AFTER_FIRST: [&str; 8] = [
     "workunit_class",
 ];
 
-/// The names of what version 2 lacks: the tables of classes.
-const AFTER_QUEUE: [&str; 2] = ["host_class", "workunit_class"];
+/// The place of the first name of what version 2 lacks: the tables of classes.
+const AFTER_QUEUE: usize = 6;
 
 /// Returns the names that an upgrade of a project of this version gives.
 fn upgrade_names(version: u64) -> &'static [&'static str]
@@ -30,7 +30,7 @@ fn upgrade_names(version: u64) -> &'static [&'static str]
     if version < QUEUE_VERSION {
         &AFTER_FIRST
     } else if version < CLASS_VERSION {
-        &AFTER_QUEUE
+        &AFTER_FIRST[AFTER_QUEUE..]
     } else {
         &[]
     }

@@ -6,7 +6,7 @@ use Rattle.wu_schema.specs.Tables.{IsClassedVersion}
 use Rattle.wu_schema.proofs.ReadLemmas.{if_ok, if_err}
 use Rattle.wu_schema.proofs.ToldLemmas.{counted_told}
 use Rattle.wu_schema.proofs.Parts.{Part, IsIn, table_in, name_of, parts_there}
-use Rattle.wu_schema.proofs.CountTexts.{CountFits, Counted, IsCountTyped, parsed_by, select_by}
+use Rattle.wu_schema.proofs.CountTexts.{CountFits, Counted, IsCountTyped, count_parsed, count_select}
 use Rattle.wu_schema.proofs.QuietLemmas.{same_some}
 use Rattle.sqlite_sql.specs.Aggregate.{count}
 use Rattle.wu_store.specs.Answers.{ShowsLast}
@@ -43,21 +43,21 @@ module _ {S : Type 0} (g : Ghosts S) (old new : Held S) (sql : List ℕ) (params
 -- ---- a question that counts
 
 -- one that counts rows of its table
-pub count_question : (p : Part) → ((version : ℕ) → IsIn p version) → (q : Counted) (by : Option ℕ) → ((tree : ℕ) → CountFits (name_of p) (table_in p tree) q by) → (params : Row) → length params ≡ length q.parameters
-    → ((tree : ℕ) → IsCountTyped (name_of p) (table_in p tree) q by params) → IsQuestion q.text params Refines
-count_question p in_p q by fits params few typed = record {
-  select = record { parsed = parsed_by (name_of p) (table_in p 0) q by; select = select_by (name_of p) (table_in p 0) q by; read = (fits 0).read; is = refl };
-  told = λ old new e h world s unlimited. let has = parts_there old.now world s p (in_p world.version) in counted_told (name_of p) has.0 _ q by (fits _) old new has.1 params e few (typed _) unlimited h;
+pub count_question : (p : Part) → ((version : ℕ) → IsIn p version) → (q : Counted) → ((tree : ℕ) → CountFits (name_of p) (table_in p tree) q) → (params : Row) → length params ≡ length q.parameters
+    → ((tree : ℕ) → IsCountTyped (name_of p) (table_in p tree) q params) → IsQuestion q.text params Refines
+count_question p in_p q fits params few typed = record {
+  select = record { parsed = count_parsed (name_of p) (table_in p 0) q; select = count_select (name_of p) (table_in p 0) q; read = (fits 0).read; is = refl };
+  told = λ old new e h world s unlimited. let has = parts_there old.now world s p (in_p world.version) in counted_told (name_of p) has.0 _ q (fits _) old new has.1 params e few (typed _) unlimited h;
 }
 
 -- one that counts rows of a table of classes
-pub class_count_question : (p : Part) → ((version : ℕ) → IsClassedVersion version → IsIn p version) → (q : Counted) (by : Option ℕ) → ((tree : ℕ) → CountFits (name_of p) (table_in p tree) q by) → (params : Row) → length params ≡ length q.parameters
-    → ((tree : ℕ) → IsCountTyped (name_of p) (table_in p tree) q by params) → IsQuestion q.text params WithClasses
-class_count_question p in_p q by fits params few typed = record {
-  select = record { parsed = parsed_by (name_of p) (table_in p 0) q by; select = select_by (name_of p) (table_in p 0) q by; read = (fits 0).read; is = refl };
+pub class_count_question : (p : Part) → ((version : ℕ) → IsClassedVersion version → IsIn p version) → (q : Counted) → ((tree : ℕ) → CountFits (name_of p) (table_in p tree) q) → (params : Row) → length params ≡ length q.parameters
+    → ((tree : ℕ) → IsCountTyped (name_of p) (table_in p tree) q params) → IsQuestion q.text params WithClasses
+class_count_question p in_p q fits params few typed = record {
+  select = record { parsed = count_parsed (name_of p) (table_in p 0) q; select = count_select (name_of p) (table_in p 0) q; read = (fits 0).read; is = refl };
   told = λ old new e h world stood unlimited.
       let has = parts_there old.now world stood.1 p (in_p world.version stood.0) in
-      counted_told (name_of p) has.0 _ q by (fits _) old new has.1 params e few (typed _) unlimited h;
+      counted_told (name_of p) has.0 _ q (fits _) old new has.1 params e few (typed _) unlimited h;
 }
 
 -- the number that its one row counts

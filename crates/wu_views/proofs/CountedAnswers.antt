@@ -22,20 +22,20 @@ counting text = record { text = text; parameters = []; tests = [] }
 
 -- ---- all of a part
 
-pub workunits_fit : (tree : ℕ) → CountFits (codes "workunit_class") (workunit_class_at tree) (counting COUNT_WORKUNITS.now) None
+pub workunits_fit : (tree : ℕ) → CountFits (codes "workunit_class") (workunit_class_at tree) (counting COUNT_WORKUNITS.now)
 unfolding everything
-workunits_fit tree = record { found = tt; tests = refl; strict = refl; height = (0, tt); few = omega arith; read = refl; typed = refl }
+workunits_fit tree = record { tests = refl; strict = refl; height = (0, tt); few = omega arith; read = refl; typed = refl }
 
-pub imports_fit : (tree : ℕ) → CountFits (codes "import") (import_at tree) (counting COUNT_IMPORTS.now) None
+pub imports_fit : (tree : ℕ) → CountFits (codes "import") (import_at tree) (counting COUNT_IMPORTS.now)
 unfolding everything
-imports_fit tree = record { found = tt; tests = refl; strict = refl; height = (0, tt); few = omega arith; read = refl; typed = refl }
+imports_fit tree = record { tests = refl; strict = refl; height = (0, tt); few = omega arith; read = refl; typed = refl }
 
-pub classes_fit : (tree : ℕ) → CountFits (codes "host_class") (host_class_at tree) (counting COUNT_CLASSES.now) None
+pub classes_fit : (tree : ℕ) → CountFits (codes "host_class") (host_class_at tree) (counting COUNT_CLASSES.now)
 unfolding everything
-classes_fit tree = record { found = tt; tests = refl; strict = refl; height = (0, tt); few = omega arith; read = refl; typed = refl }
+classes_fit tree = record { tests = refl; strict = refl; height = (0, tt); few = omega arith; read = refl; typed = refl }
 
 module _ (old new : State) (world : World) (s : Refines old.now world) (rows : List Row) where
-  part_counted : (p : Part) → IsIn p world.version → (text : List ℕ) → ((tree : ℕ) → CountFits (name_of p) (table_in p tree) (counting text) None) → Shown text [] old new rows → IsCount rows (length (old.now.trees (table_in p (tree_in s.trees p)).tree))
+  part_counted : (p : Part) → IsIn p world.version → (text : List ℕ) → ((tree : ℕ) → CountFits (name_of p) (table_in p tree) (counting text)) → Shown text [] old new rows → IsCount rows (length (old.now.trees (table_in p (tree_in s.trees p)).tree))
   part_counted p is_in text fits h = let has = parts_there old.now world s p is_in in (all_counted (name_of p) has.0 (table_in p (tree_in s.trees p)) (counting text) old new has.1 [] rows (fits _) h).one ∙ ap (λ rs. (count (length rs) ∷ []) ∷ []) (no_test _)
 
   pub workunits_counted : KnowsClasses world → Shown COUNT_WORKUNITS.now [] old new rows → IsCount rows (workunit_count world)

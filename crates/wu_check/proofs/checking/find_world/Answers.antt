@@ -15,17 +15,19 @@ returns-in-Err-clause-examines g c =
 
 pub returns-in_err-version-clause-examines : goal.returns-in_err-version-clause-examines
 returns-in_err-version-clause-examines g c =
-    let tables = subst (λ (s : Schema). HasTables 1 s c.in_default.field-0) c.schema.ensures.value c.in_default.ensures.found in
+    let found = c.in_default.ensures.found in
+    let tables = subst (λ (s : Schema). HasTables 1 s found.0) c.schema.ensures.value found.1 in
     examines_fault g.S.Store c.args.conn.now c.version_told.new.conn IsReadVersion c.in_err-version.field-0.0 IsBasis
-    (examines_version g.S.Store c.args.conn.now c.version_told.new.conn c.in_default.field-0 tables _ c.in_err-version.ensures)
+    (examines_version g.S.Store c.args.conn.now c.version_told.new.conn found.0 tables _ c.in_err-version.ensures)
     c.from_residual-in_err-version.result c.from_residual-in_err-version.ensures.1
 
 pub returns-clause-examines : goal.returns-clause-examines
 returns-clause-examines g c =
-    let tables = subst (λ (s : Schema). HasTables 1 s c.in_default.field-0) c.schema.ensures.value c.in_default.ensures.found in
+    let found = c.in_default.ensures.found in
+    let tables = subst (λ (s : Schema). HasTables 1 s found.0) c.schema.ensures.value found.1 in
     examines_then g.S.Store c.args.conn.now c.version_told.new.conn c.find_world_of.new.conn c.in_ok-version.version IsReadVersion
-    (examines_version g.S.Store c.args.conn.now c.version_told.new.conn c.in_default.field-0 tables _ c.in_ok-version.ensures)
-    _ _ c.find_world_of.ensures.examines IsBasis (λ y told then. then (record { read = told; trees = c.in_default.field-0; there = tables }))
+    (examines_version g.S.Store c.args.conn.now c.version_told.new.conn found.0 tables _ c.in_ok-version.ensures)
+    _ _ c.find_world_of.ensures.examines IsBasis (λ y told then. then (record { read = told; trees = found.0; there = tables }))
 
 pub returns-in-Err-clause-later : goal.returns-in-Err-clause-later
 returns-in-Err-clause-later g c = c.in_ok-finding.ensures.later

@@ -1,8 +1,11 @@
-use Rattle.wu_schema.proofs.Words.{Ok, Schema, inr, state, subst, sym}
+use Rattle.wu_schema.proofs.Words.{Err, Ok, Schema, arith, inr, state, subst, sym}
 use Rattle.wu_schema.specs.Tables.{HasTables, IsClassedVersion}
 use Rattle.wu_check.specs.Findings.{IsBasisOf, TellsLater}
 use Rattle.wu_check.specs.declared.checking.Basis.TheVariants as basis
-use Rattle.wu_check.proofs.ExamineLemmas.{FindsOf, TellsOfVersion, lacks, examines_fault, examines_made, examines_then, examines_world}
+use Rattle.wu_check.specs.declared.finding.Finding.{Finding}
+use Rattle.wu_check.proofs.ExamineLemmas.{FindsOf, TellsOfVersion, lacks, examines_fault, examines_later, examines_made, examines_row, examines_world, serves_then}
+use Rattle.wu_schema.proofs.AskingLemmas.{asks_then}
+use Rattle.wu_store.proofs.AskLemmas.{opens_handed}
 use Rattle.wu_check.proofs.LaterLemmas.{later_then}
 use Rattle.wu_check.proofs.checking.find_world_of.Goals as goal
 
@@ -14,37 +17,54 @@ returns-in-Err-clause-examines g c =
 
 pub returns-in_err-loaded-clause-examines : goal.returns-in_err-loaded-clause-examines
 returns-in_err-loaded-clause-examines g c =
-    let tables = subst (λ (s : Schema). HasTables c.args.version s c.in_default.field-0) c.schema.ensures.value c.in_default.ensures.found in
+    let found = c.in_default.ensures.found in
+    let tables = subst (λ (s : Schema). HasTables c.args.version s found.0) c.schema.ensures.value found.1 in
     examines_fault g.S.Store c.args.conn.now c.load_world.new.conn (FindsOf c.args.version) c.in_err-loaded.field-0.0 (IsBasisOf c.args.version)
-    (examines_world c.args.version g.S.Store c.args.conn.now c.load_world.new.conn c.in_default.field-0 tables _ c.in_err-loaded.ensures.asks c.in_err-loaded.ensures.fault c.in_err-loaded.ensures.answered c.in_err-loaded.ensures.world c.in_err-loaded.ensures.none c.in_err-loaded.ensures.told)
+    (examines_world c.args.version g.S.Store c.args.conn.now c.load_world.new.conn found.0 tables _ c.in_err-loaded.ensures.asks c.in_err-loaded.ensures.fault c.in_err-loaded.ensures.answered c.in_err-loaded.ensures.world c.in_err-loaded.ensures.none c.in_err-loaded.ensures.told)
     c.from_residual-in_err-loaded.result c.from_residual-in_err-loaded.ensures.1
 
 pub returns-in-World-clause-examines : goal.returns-in-World-clause-examines
 returns-in-World-clause-examines g c =
-    let tables = subst (λ (s : Schema). HasTables c.args.version s c.in_default.field-0) c.schema.ensures.value c.in_default.ensures.found in
+    let found = c.in_default.ensures.found in
+    let tables = subst (λ (s : Schema). HasTables c.args.version s found.0) c.schema.ensures.value found.1 in
     examines_made g.S.Store c.args.conn.now c.load_world.new.conn (FindsOf c.args.version) c.in_ok-loaded.field-0 (basis.World c.in-World.loaded) (IsBasisOf c.args.version)
     (λ found first. subst (FindsOf c.args.version (state g.S.Store c.args.conn.now).now) c.in-World.is found first.read)
-    (examines_world c.args.version g.S.Store c.args.conn.now c.load_world.new.conn c.in_default.field-0 tables _ c.in_ok-loaded.ensures.asks c.in_ok-loaded.ensures.fault c.in_ok-loaded.ensures.answered c.in_ok-loaded.ensures.world c.in_ok-loaded.ensures.none c.in_ok-loaded.ensures.told)
+    (examines_world c.args.version g.S.Store c.args.conn.now c.load_world.new.conn found.0 tables _ c.in_ok-loaded.ensures.asks c.in_ok-loaded.ensures.fault c.in_ok-loaded.ensures.answered c.in_ok-loaded.ensures.world c.in_ok-loaded.ensures.none c.in_ok-loaded.ensures.told)
+
+pub returns-in_err-found-in-Wrong-clause-examines : goal.returns-in_err-found-in-Wrong-clause-examines
+returns-in_err-found-in-Wrong-clause-examines g c =
+    let found = c.in_default.ensures.found in
+    let tables = subst (λ (s : Schema). HasTables c.args.version s found.0) c.schema.ensures.value found.1 in
+    examines_fault g.S.Store c.args.conn.now c.finding_of_row.new.conn (TellsOfVersion c.args.version) c.in_err-found-in-Wrong.field-0.0 (IsBasisOf c.args.version)
+    (examines_row c.args.version g.S.Store c.args.conn.now c.load_world.new.conn c.finding_of_row.new.conn c.in_ok-loaded.field-0 c.in-Wrong.wrong c.in-Wrong.is
+    (examines_world c.args.version g.S.Store c.args.conn.now c.load_world.new.conn found.0 tables _ c.in_ok-loaded.ensures.asks c.in_ok-loaded.ensures.fault c.in_ok-loaded.ensures.answered c.in_ok-loaded.ensures.world c.in_ok-loaded.ensures.none c.in_ok-loaded.ensures.told)
+    (Err c.in_err-found-in-Wrong.field-0.0) c.in_err-found-in-Wrong.ensures.examines)
+    c.from_residual-in_err-found-in-Wrong.result c.from_residual-in_err-found-in-Wrong.ensures.1
+
+pub returns-in_err-found-in-Wrong-clause-opens : goal.returns-in_err-found-in-Wrong-clause-opens
+returns-in_err-found-in-Wrong-clause-opens g c =
+    opens_handed c.from_residual-in_err-found-in-Wrong.result c.in_err-found-in-Wrong.field-0.0 c.from_residual-in_err-found-in-Wrong.ensures.1 g.S.Store c.finding_of_row.new.conn
+    (serves_then {U = Finding} g.S.Store c.load_world.new.conn c.finding_of_row.new.conn c.in_ok-loaded.field-0 (Err c.in_err-found-in-Wrong.field-0.0) (λ clean. omega (arith, clean, c.in_err-found-in-Wrong.ensures.examines.asks.crash.clean)) c.in_ok-loaded.ensures.opens c.in_err-found-in-Wrong.ensures.stays)
 
 pub returns-in_ok-finding-in-Wrong-clause-examines :
     goal.returns-in_ok-finding-in-Wrong-clause-examines
 returns-in_ok-finding-in-Wrong-clause-examines g c =
-    let tables = subst (λ (s : Schema). HasTables c.args.version s c.in_default.field-0) c.schema.ensures.value c.in_default.ensures.found in
+    let found = c.in_default.ensures.found in
+    let tables = subst (λ (s : Schema). HasTables c.args.version s found.0) c.schema.ensures.value found.1 in
     examines_made g.S.Store c.args.conn.now c.unless_later-in-Wrong.new.conn (TellsOfVersion c.args.version) c.in_ok-finding-in-Wrong.finding (basis.Unsound c.in_ok-finding-in-Wrong.finding) (IsBasisOf c.args.version) (λ told first. told first.read)
-    (examines_then g.S.Store c.args.conn.now c.load_world.new.conn c.unless_later-in-Wrong.new.conn c.in_ok-loaded.field-0 (FindsOf c.args.version)
-    (examines_world c.args.version g.S.Store c.args.conn.now c.load_world.new.conn c.in_default.field-0 tables _ c.in_ok-loaded.ensures.asks c.in_ok-loaded.ensures.fault c.in_ok-loaded.ensures.answered c.in_ok-loaded.ensures.world c.in_ok-loaded.ensures.none c.in_ok-loaded.ensures.told)
-    _ _ c.in_ok-finding-in-Wrong.ensures.examines (TellsOfVersion c.args.version)
-    (λ y found then told. then (subst (FindsOf c.args.version (state g.S.Store c.args.conn.now).now) c.in-Wrong.is found told)))
+    (examines_later c.args.version g.S.Store c.args.conn.now c.load_world.new.conn c.finding_of_row.new.conn c.in_ok-loaded.field-0 c.in-Wrong.wrong c.in-Wrong.is
+    (examines_world c.args.version g.S.Store c.args.conn.now c.load_world.new.conn found.0 tables _ c.in_ok-loaded.ensures.asks c.in_ok-loaded.ensures.fault c.in_ok-loaded.ensures.answered c.in_ok-loaded.ensures.world c.in_ok-loaded.ensures.none c.in_ok-loaded.ensures.told)
+    c.unless_later-in-Wrong.new.conn c.in_ok-found-in-Wrong.found c.in_ok-found-in-Wrong.ensures.examines _ c.in_ok-finding-in-Wrong.ensures.examines)
 
 pub returns-in_err-finding-in-Wrong-clause-examines :
     goal.returns-in_err-finding-in-Wrong-clause-examines
 returns-in_err-finding-in-Wrong-clause-examines g c =
-    let tables = subst (λ (s : Schema). HasTables c.args.version s c.in_default.field-0) c.schema.ensures.value c.in_default.ensures.found in
+    let found = c.in_default.ensures.found in
+    let tables = subst (λ (s : Schema). HasTables c.args.version s found.0) c.schema.ensures.value found.1 in
     examines_fault g.S.Store c.args.conn.now c.unless_later-in-Wrong.new.conn (TellsOfVersion c.args.version) c.in_err-finding-in-Wrong.field-0.0 (IsBasisOf c.args.version)
-    (examines_then g.S.Store c.args.conn.now c.load_world.new.conn c.unless_later-in-Wrong.new.conn c.in_ok-loaded.field-0 (FindsOf c.args.version)
-    (examines_world c.args.version g.S.Store c.args.conn.now c.load_world.new.conn c.in_default.field-0 tables _ c.in_ok-loaded.ensures.asks c.in_ok-loaded.ensures.fault c.in_ok-loaded.ensures.answered c.in_ok-loaded.ensures.world c.in_ok-loaded.ensures.none c.in_ok-loaded.ensures.told)
-    _ _ c.in_err-finding-in-Wrong.ensures.examines (TellsOfVersion c.args.version)
-    (λ y found then told. then (subst (FindsOf c.args.version (state g.S.Store c.args.conn.now).now) c.in-Wrong.is found told)))
+    (examines_later c.args.version g.S.Store c.args.conn.now c.load_world.new.conn c.finding_of_row.new.conn c.in_ok-loaded.field-0 c.in-Wrong.wrong c.in-Wrong.is
+    (examines_world c.args.version g.S.Store c.args.conn.now c.load_world.new.conn found.0 tables _ c.in_ok-loaded.ensures.asks c.in_ok-loaded.ensures.fault c.in_ok-loaded.ensures.answered c.in_ok-loaded.ensures.world c.in_ok-loaded.ensures.none c.in_ok-loaded.ensures.told)
+    c.unless_later-in-Wrong.new.conn c.in_ok-found-in-Wrong.found c.in_ok-found-in-Wrong.ensures.examines _ c.in_err-finding-in-Wrong.ensures.examines)
     c.from_residual-in_err-finding-in-Wrong.result c.from_residual-in_err-finding-in-Wrong.ensures.1
 
 pub returns-in-Err-clause-later : goal.returns-in-Err-clause-later
@@ -52,5 +72,9 @@ returns-in-Err-clause-later g c = c.in_ok-finding.ensures.later
 
 pub returns-in_ok-finding-in-Wrong-clause-later : goal.returns-in_ok-finding-in-Wrong-clause-later
 returns-in_ok-finding-in-Wrong-clause-later g c =
-    later_then g.S.Store c.args.conn.now c.load_world.new.conn c.unless_later-in-Wrong.new.conn c.in_ok-loaded.field-0 c.in_ok-loaded.ensures.asks (Ok c.in_ok-finding-in-Wrong.finding) c.in_ok-finding-in-Wrong.ensures.examines.asks
-    TellsLater c.in_ok-finding-in-Wrong.ensures.later
+    let last = c.in_ok-finding-in-Wrong.ensures.examines.asks in
+    let row = c.in_ok-found-in-Wrong.ensures.examines.asks in
+    later_then g.S.Store c.args.conn.now c.load_world.new.conn c.unless_later-in-Wrong.new.conn c.in_ok-loaded.field-0 c.in_ok-loaded.ensures.asks (Ok c.in_ok-finding-in-Wrong.finding)
+    (asks_then g.S.Store c.load_world.new.conn c.finding_of_row.new.conn c.unless_later-in-Wrong.new.conn c.in_ok-found-in-Wrong.found row (Ok c.in_ok-finding-in-Wrong.finding) last)
+    TellsLater
+    (later_then g.S.Store c.load_world.new.conn c.finding_of_row.new.conn c.unless_later-in-Wrong.new.conn c.in_ok-found-in-Wrong.found row (Ok c.in_ok-finding-in-Wrong.finding) last TellsLater c.in_ok-finding-in-Wrong.ensures.later)

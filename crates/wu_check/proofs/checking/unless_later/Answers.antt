@@ -1,6 +1,6 @@
 use Rattle.wu_schema.proofs.Words.{Err, Fault, IfErr, IfOk, None, NotAProject, Ok, Option, Result, Some, rules, state, subst, ℕ, ◌≡◌}
 use Rattle.wu_schema.proofs.AskingLemmas.{asks_made}
-use Rattle.wu_check.proofs.ExamineLemmas.{never_broken}
+use Rattle.wu_loader.proofs.LookLemmas.{never_broken}
 use Rattle.wu_schema.specs.Versions.{AnswersVersion, RefusesVersion}
 use Rattle.wu_check.proofs.LaterLemmas.{known_later, refused_later, tells_row, told_later}
 use Rattle.wu_check.proofs.checking.unless_later.Goals.{in-Ok-Some+else-not-is_known, in-Ok+in-None-1, in-Err+in-NotAProject-1}

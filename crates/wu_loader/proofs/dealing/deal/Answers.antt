@@ -1,14 +1,8 @@
 use Rattle.wu_schema.proofs.Words.{List, Workunit, [], ap, arith, flat_map, length, refl, rules, subst, sym, ◌++◌, ◌∙◌, ◌∷◌, ◌≡◌, ◌≢◌}
 use Rattle.std.proofs.lemmas.Bool.Decides.{nat_tests}
 use Rattle.std.proofs.lemmas.List.{length-append}
-use Rattle.wu_loader.specs.Dealing.{placed_of, AreDealt}
-use Rattle.wu_loader.specs.Whole.{IsIn}
-use Rattle.wu_loader.specs.Worlds.{IsOrdered}
-use Rattle.wu_loader.specs.Wrongs.{IsUndealtAt}
-use Rattle.wu_loader.specs.declared.finding.LoadedTable.TheVariants as table
-use Rattle.wu_loader.specs.declared.finding.NoWorld.TheVariants.{Memory}
-use Rattle.wu_loader.specs.declared.finding.WrongRow.{WrongRow}
-use Rattle.wu_loader.proofs.WholeLemmas.{handed}
+use Rattle.wu_loader.specs.Dealing.{placed_of}
+use Rattle.wu_loader.proofs.WholeLemmas.{handed_memory}
 use Rattle.wu_loader.proofs.DealLemmas.{no_items, deals_all, deals_left, deals_more, deals_none, first_undealt, IsDealing}
 use Rattle.wu_loader.proofs.dealing.deal.Goals as goal
 
@@ -24,19 +18,13 @@ loop-workunit-preserved c =
     rw grown (deals_more _ _ _ _ _ c.in-Some.workunit _ _ _ so_far told.taken told.few told.all)
 
 pub returns-in_err-dealt-clause-none : goal.returns-in_err-dealt-clause-none
-returns-in_err-dealt-clause-none c =
-    let none = λ (wrong : WrongRow). (ws : List Workunit) → IsOrdered ws → ¬ AreDealt c.args.workunits.items c.args.placed.items ws in
-    handed c.from_residual.result Memory none none (λ wrong is. is) c.from_residual.ensures.1 tt
+returns-in_err-dealt-clause-none c = handed_memory c.from_residual.result _ c.from_residual.ensures.1
 
 pub returns-in_err-instances-clause-none : goal.returns-in_err-instances-clause-none
-returns-in_err-instances-clause-none c =
-    let none = λ (wrong : WrongRow). (ws : List Workunit) → IsOrdered ws → ¬ AreDealt c.args.workunits.items c.args.placed.items ws in
-    handed c.from_residual-in_err-instances.result Memory none none (λ wrong is. is) c.from_residual-in_err-instances.ensures.1 tt
+returns-in_err-instances-clause-none c = handed_memory c.from_residual-in_err-instances.result _ c.from_residual-in_err-instances.ensures.1
 
 pub returns-in_err-push-clause-none : goal.returns-in_err-push-clause-none
-returns-in_err-push-clause-none c =
-    let none = λ (wrong : WrongRow). (ws : List Workunit) → IsOrdered ws → ¬ AreDealt c.args.workunits.items c.args.placed.items ws in
-    handed c.from_residual-in_err-push.result Memory none none (λ wrong is. is) c.from_residual-in_err-push.ensures.1 tt
+returns-in_err-push-clause-none c = handed_memory c.from_residual-in_err-push.result _ c.from_residual-in_err-push.ensures.1
 
 pub returns-then-is_empty-clause-dealt : goal.returns-then-is_empty-clause-dealt
 returns-then-is_empty-clause-dealt c =
@@ -55,19 +43,13 @@ returns-clause-none c =
     deals_left _ _ _ _ _ so_far some
 
 pub returns-in_err-dealt-clause-told : goal.returns-in_err-dealt-clause-told
-returns-in_err-dealt-clause-told c =
-    let told = IsIn table.Result (IsUndealtAt c.args.workunits.items c.args.placed.items) in
-    handed c.from_residual.result Memory told told (λ wrong is. is) c.from_residual.ensures.1 tt
+returns-in_err-dealt-clause-told c = handed_memory c.from_residual.result _ c.from_residual.ensures.1
 
 pub returns-in_err-instances-clause-told : goal.returns-in_err-instances-clause-told
-returns-in_err-instances-clause-told c =
-    let told = IsIn table.Result (IsUndealtAt c.args.workunits.items c.args.placed.items) in
-    handed c.from_residual-in_err-instances.result Memory told told (λ wrong is. is) c.from_residual-in_err-instances.ensures.1 tt
+returns-in_err-instances-clause-told c = handed_memory c.from_residual-in_err-instances.result _ c.from_residual-in_err-instances.ensures.1
 
 pub returns-in_err-push-clause-told : goal.returns-in_err-push-clause-told
-returns-in_err-push-clause-told c =
-    let told = IsIn table.Result (IsUndealtAt c.args.workunits.items c.args.placed.items) in
-    handed c.from_residual-in_err-push.result Memory told told (λ wrong is. is) c.from_residual-in_err-push.ensures.1 tt
+returns-in_err-push-clause-told c = handed_memory c.from_residual-in_err-push.result _ c.from_residual-in_err-push.ensures.1
 
 pub returns-clause-told : goal.returns-clause-told
 returns-clause-told c =

@@ -1,5 +1,5 @@
-use Rattle.wu_schema.proofs.Words.{Database, Err, Fault, HasTables, IsDatabase, Ok, Result, inr, state, subst, sym, ◌≢◌}
-use Rattle.wu_core.specs.declared.fault.Fault.TheVariants.{Broken, Memory}
+use Rattle.wu_schema.proofs.Words.{Database, Err, HasTables, IsDatabase, Ok, inr, state, subst, sym}
+use Rattle.wu_core.specs.declared.fault.Fault.TheVariants.{Memory}
 use Rattle.wu_schema.proofs.AskingLemmas.{asks_made, asks_unchanged}
 use Rattle.wu_store.proofs.PlacedLemmas.{world_rises}
 use Rattle.wu_loader.specs.Asked.{HasArranged, Looks}
@@ -7,7 +7,7 @@ use Rattle.wu_loader.specs.Shown.{Shows}
 use Rattle.wu_loader.specs.Worlds.{AreRowsOf}
 use Rattle.wu_loader.specs.declared.finding.Found.{Found}
 use Rattle.wu_loader.specs.declared.finding.Found.TheVariants as found
-use Rattle.wu_loader.proofs.LookLemmas.{looks_fault, never_broken}
+use Rattle.wu_loader.proofs.LookLemmas.{looks_fault, memory_other, never_broken}
 use Rattle.wu_loader.proofs.StandLemmas.{rows_stand, stands_arranged, stands_shown}
 use Rattle.wu_loader.proofs.loading.load_world.Given
 use Rattle.wu_loader.proofs.loading.load_world.Goals as goal
@@ -56,11 +56,8 @@ returns-in-Err-Wrong-clause-asks g c = asks_made g.S.Store c.args.conn.now c.tab
 pub returns-in-Err-Wrong-clause-opens : goal.returns-in-Err-Wrong-clause-opens
 returns-in-Err-Wrong-clause-opens g c = c.in_ok-rows.ensures.opens
 
-no_fault_of_memory : ◌≢◌ {A = Result Found Fault} (Err Memory) (Err Broken)
-no_fault_of_memory is = absurd cc
-
 pub returns-in-Err-Memory-clause-asks : goal.returns-in-Err-Memory-clause-asks
-returns-in-Err-Memory-clause-asks g c = asks_made g.S.Store c.args.conn.now c.table_rows.new.conn c.in_ok-rows.rows (Err Memory) no_fault_of_memory c.in_ok-rows.ensures.asks
+returns-in-Err-Memory-clause-asks g c = asks_made g.S.Store c.args.conn.now c.table_rows.new.conn c.in_ok-rows.rows (Err Memory) memory_other c.in_ok-rows.ensures.asks
 
 pub returns-in-Err-Memory-clause-opens : goal.returns-in-Err-Memory-clause-opens
 returns-in-Err-Memory-clause-opens g c clean = inr (c.in_ok-rows.ensures.opens clean)

@@ -2,9 +2,7 @@ use Rattle.wu_schema.proofs.Words.{Err, Fault, [], arith, refl, rules, subst, sy
 use Rattle.std.proofs.lemmas.List.Elements.{All-push, All-nil}
 use Rattle.std.proofs.lemmas.List.{length-append}
 use Rattle.wu_schema.specs.Restoring.{Restores}
-use Rattle.wu_loader.specs.Whole.{IsIn, IsNoRow}
-use Rattle.wu_loader.specs.declared.finding.NoWorld.TheVariants.{Memory}
-use Rattle.wu_loader.proofs.WholeLemmas.{handed, no_row, rows_more}
+use Rattle.wu_loader.proofs.WholeLemmas.{handed_memory, no_row, rows_more}
 use Rattle.wu_loader.proofs.whole.all_from.Goals as goal
 
 pub loop-before-preserved : goal.loop-before-preserved
@@ -22,14 +20,10 @@ pub loop-before-init : goal.loop-before-init
 loop-before-init g c = rw c.in_ok-values.ensures.items (record { same = refl; each = All-nil g.T.FromRow.is_value; long = refl })
 
 pub returns-in_err-values-clause-none : goal.returns-in_err-values-clause-none
-returns-in_err-values-clause-none g c =
-    let none = IsIn c.args.table (IsNoRow g.T.FromRow.cells g.T.FromRow.is_value c.args.rows.now) in
-    handed c.from_residual.result Memory none none (λ wrong is. is) c.from_residual.ensures.1 tt
+returns-in_err-values-clause-none g c = handed_memory c.from_residual.result _ c.from_residual.ensures.1
 
 pub returns-in_err-push-in-Ok-clause-none : goal.returns-in_err-push-in-Ok-clause-none
-returns-in_err-push-in-Ok-clause-none g c =
-    let none = IsIn c.args.table (IsNoRow g.T.FromRow.cells g.T.FromRow.is_value c.args.rows.now) in
-    handed c.from_residual-in_err-push-in-Ok.result Memory none none (λ wrong is. is) c.from_residual-in_err-push-in-Ok.ensures.1 tt
+returns-in_err-push-in-Ok-clause-none g c = handed_memory c.from_residual-in_err-push-in-Ok.result _ c.from_residual-in_err-push-in-Ok.ensures.1
 
 pub returns-in-Err-NotAProject-clause-none : goal.returns-in-Err-NotAProject-clause-none
 returns-in-Err-NotAProject-clause-none g c = let so_far = c.loop-before.invariant in (

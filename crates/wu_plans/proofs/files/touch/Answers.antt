@@ -1,19 +1,13 @@
-use Rattle.wu_store.proofs.AskLemmas.{reads_also}
-use Rattle.std.proofs.Common.{◌≡◌, ◌∙◌, Some, sym, rules}
+use Rattle.wu_store.proofs.AskLemmas.{reads_also, reads_handed, reads_made, reads_none}
+use Rattle.std.proofs.Common.{◌≡◌, ◌∙◌, Some, sym}
 use Rattle.wu_machine.specs.Worlds.{workunit_named}
 use Rattle.wu_store.proofs.WorldOnce.{once_named}
 use Rattle.wu_plans.proofs.FileLemmas.{not_touched, taken_in, touched_has, touched_none}
-use Rattle.wu_plans.proofs.AskLemmas.{asks_handed, asks_made, asks_none}
-use Rattle.wu_plans.proofs.ExitLemmas.{handed_told, memory_told, memory_unbroken, memory_unrefused}
+use Rattle.wu_plans.proofs.ExitLemmas.{memory_told, memory_unbroken, memory_unrefused}
 use Rattle.wu_plans.proofs.files.touch.Goals as goal
 
 pub returns-then-has : goal.returns-then-has
-returns-then-has g c = record {
-  asks = asks_none g.S.Store _ _ (λ is. absurd cc);
-  fault = search rules;
-  found = λ clean world stands known images. touched_has world c.args.touched.now c.args.name.now (sym c.has.ensures ∙ c.if-has.true) images;
-  unrefused = search rules;
-}
+returns-then-has g c = reads_none g.S.Store _ _ (λ world stands known images. touched_has world c.args.touched.now c.args.name.now (sym c.has.ensures ∙ c.if-has.true) images)
 
 pub returns-in-Some : goal.returns-in-Some
 returns-in-Some g c =
@@ -23,18 +17,10 @@ returns-in-Some g c =
     (λ world stands earlier can. memory_unrefused c.insert.result c.insert.ensures.fault)
 
 pub returns-in-None : goal.returns-in-None
-returns-in-None g c = record {
-  asks = asks_made g.S.Store _ _ c.in_ok-workunit.field-0 _ (λ is. absurd cc) c.in_ok-workunit.ensures.reads.asks;
-  fault = search rules;
-  found = λ clean world stands known images. let new = not_touched c.args.touched.now c.args.name.now (sym c.has.ensures ∙ c.if-has.false) in
-      touched_none world c.args.touched.now c.args.name.now new (sym (sym c.in-None.is ∙ c.in_ok-workunit.ensures.reads.found clean world stands known)) images;
-  unrefused = search rules;
-}
+returns-in-None g c =
+    let new = not_touched c.args.touched.now c.args.name.now (sym c.has.ensures ∙ c.if-has.false) in
+    reads_made g.S.Store _ _ c.in_ok-workunit.field-0 _ c.in_ok-workunit.ensures.reads (λ world stands found known images. touched_none world c.args.touched.now c.args.name.now new (sym (sym c.in-None.is ∙ found known)) images)
 
 pub returns-in_err-workunit : goal.returns-in_err-workunit
-returns-in_err-workunit g c = record {
-  asks = asks_handed g.S.Store _ _ c.from_residual.result c.in_err-workunit.field-0.0 c.from_residual.ensures.1 c.in_err-workunit.ensures.reads.asks;
-  fault = handed_told c.from_residual.result c.in_err-workunit.field-0.0 c.from_residual.ensures.1 c.in_err-workunit.ensures.reads.fault;
-  found = search rules;
-  unrefused = search rules;
-}
+returns-in_err-workunit g c =
+    reads_handed g.S.Store _ _ c.from_residual.result c.in_err-workunit.field-0.0 c.from_residual.ensures.1 c.in_err-workunit.ensures.reads (λ other told world known images. tt) (λ world stands can. can)

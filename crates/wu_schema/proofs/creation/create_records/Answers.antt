@@ -1,60 +1,34 @@
-use Rattle.wu_schema.proofs.Words.{[], archived_at, codes, host_at, import_at, ◌∷◌}
-use Rattle.wu_schema.proofs.BreakLemmas.{breaks_on, breaks_then, create_breaks, create_fails}
-use Rattle.wu_schema.proofs.CallLemmas.{never_ok}
+use Rattle.wu_schema.specs.Made.{MakesTables, record_tables}
 use Rattle.wu_schema.proofs.CreateTexts.{archived_made, grant_made, host_made, import_made}
-use Rattle.wu_schema.proofs.StepLemmas.{frame_refused, frame_then, tables_last, tables_then}
+use Rattle.wu_schema.proofs.StepLemmas.{last_one, made_then, makes_one, stopped}
 use Rattle.wu_schema.proofs.creation.create_records.Goals as goal
 
 pub returns-in_err-execute : goal.returns-in_err-execute
 returns-in_err-execute g c =
-    let s = g.S.Store in
-    let start = c.args.tx.now in
-    let at_one = c.execute.new.tx in
-    let r = c.from_residual.result in
-    let is = c.from_residual.ensures.1 in
-    record { writes = frame_refused s start at_one c.in_err-execute.field-0.0 c.in_err-execute.ensures.writes r _ is; makes = λ clean. never_ok r _ _ is; breaks = breaks_on s start at_one c.in_err-execute.field-0.0 (create_fails s start at_one grant_made c.in_err-execute.field-0.0 c.in_err-execute.ensures.refused) r is }
+    let one = makes_one grant_made c.in_err-execute.ensures.writes c.in_err-execute.ensures.ran c.in_err-execute.ensures.refused in
+    let it = stopped (MakesTables record_tables) one c.from_residual.result c.from_residual.ensures.1 in
+    record { writes = it.writes; makes = it.makes; breaks = it.breaks tt }
 
 pub returns-in_err-execute-2 : goal.returns-in_err-execute-2
 returns-in_err-execute-2 g c =
-    let s = g.S.Store in
-    let start = c.args.tx.now in
-    let at_one = c.execute.new.tx in
-    let at_two = c.execute-2.new.tx in
-    let r = c.from_residual-in_err-execute-2.result in
-    let is = c.from_residual-in_err-execute-2.ensures.1 in
-    record { writes = frame_then s start at_one at_two c.in_ok-execute.field-0 c.in_ok-execute.ensures.writes r (frame_refused s at_one at_two c.in_err-execute-2.field-0.0 c.in_err-execute-2.ensures.writes r _ is); makes = λ clean. never_ok r _ _ is; breaks = breaks_then s start at_one at_two c.in_ok-execute.field-0 c.in_ok-execute.ensures.writes r (frame_refused s at_one at_two c.in_err-execute-2.field-0.0 c.in_err-execute-2.ensures.writes r _ is) (breaks_on s at_one at_two c.in_err-execute-2.field-0.0 (create_fails s at_one at_two host_made c.in_err-execute-2.field-0.0 c.in_err-execute-2.ensures.refused) r is) }
+    let one = makes_one grant_made c.in_ok-execute.ensures.writes c.in_ok-execute.ensures.ran c.in_ok-execute.ensures.refused in
+    let two = makes_one host_made c.in_err-execute-2.ensures.writes c.in_err-execute-2.ensures.ran c.in_err-execute-2.ensures.refused in
+    let it = stopped (MakesTables record_tables) (made_then (λ old mid made over. tt) one two) c.from_residual-in_err-execute-2.result c.from_residual-in_err-execute-2.ensures.1 in
+    record { writes = it.writes; makes = it.makes; breaks = it.breaks tt }
 
 pub returns-in_err-execute-3 : goal.returns-in_err-execute-3
 returns-in_err-execute-3 g c =
-    let s = g.S.Store in
-    let start = c.args.tx.now in
-    let at_one = c.execute.new.tx in
-    let at_two = c.execute-2.new.tx in
-    let at_three = c.execute-3.new.tx in
-    let r = c.from_residual-in_err-execute-3.result in
-    let is = c.from_residual-in_err-execute-3.ensures.1 in
-    record { writes = frame_then s start at_one at_three c.in_ok-execute.field-0 c.in_ok-execute.ensures.writes r (frame_then s at_one at_two at_three c.in_ok-execute-2.field-0 c.in_ok-execute-2.ensures.writes r (frame_refused s at_two at_three c.in_err-execute-3.field-0.0 c.in_err-execute-3.ensures.writes r _ is)); makes = λ clean. never_ok r _ _ is; breaks = breaks_then s start at_one at_three c.in_ok-execute.field-0 c.in_ok-execute.ensures.writes r (frame_then s at_one at_two at_three c.in_ok-execute-2.field-0 c.in_ok-execute-2.ensures.writes r (frame_refused s at_two at_three c.in_err-execute-3.field-0.0 c.in_err-execute-3.ensures.writes r _ is)) (breaks_then s at_one at_two at_three c.in_ok-execute-2.field-0 c.in_ok-execute-2.ensures.writes r (frame_refused s at_two at_three c.in_err-execute-3.field-0.0 c.in_err-execute-3.ensures.writes r _ is) (breaks_on s at_two at_three c.in_err-execute-3.field-0.0 (create_fails s at_two at_three archived_made c.in_err-execute-3.field-0.0 c.in_err-execute-3.ensures.refused) r is)) }
+    let one = makes_one grant_made c.in_ok-execute.ensures.writes c.in_ok-execute.ensures.ran c.in_ok-execute.ensures.refused in
+    let two = makes_one host_made c.in_ok-execute-2.ensures.writes c.in_ok-execute-2.ensures.ran c.in_ok-execute-2.ensures.refused in
+    let three = makes_one archived_made c.in_err-execute-3.ensures.writes c.in_err-execute-3.ensures.ran c.in_err-execute-3.ensures.refused in
+    let it = stopped (MakesTables record_tables) (made_then (λ old mid made over. tt) one (made_then (λ old mid made over. tt) two three)) c.from_residual-in_err-execute-3.result c.from_residual-in_err-execute-3.ensures.1 in
+    record { writes = it.writes; makes = it.makes; breaks = it.breaks tt }
 
 pub returns : goal.returns
 returns g c =
-    let s = g.S.Store in
-    let start = c.args.tx.now in
-    let at_one = c.execute.new.tx in
-    let at_two = c.execute-2.new.tx in
-    let at_three = c.execute-3.new.tx in
-    let at_four = c.execute-4.new.tx in
-    let r = c.execute-4.result in
-    let one = c.in_ok-execute.ensures in
-    let two = c.in_ok-execute-2.ensures in
-    let three = c.in_ok-execute-3.ensures in
-    let last = c.execute-4.ensures in
-    let after_three = frame_then s at_two at_three at_four c.in_ok-execute-3.field-0 three.writes r last.writes in
-    let after_two = frame_then s at_one at_two at_four c.in_ok-execute-2.field-0 two.writes r after_three in
-    record {
-      writes = frame_then s start at_one at_four c.in_ok-execute.field-0 one.writes r after_two;
-      makes = tables_then s start at_one at_four ((codes "host", host_at) ∷ (codes "archived", archived_at) ∷ (codes "import", import_at) ∷ []) grant_made c.in_ok-execute.field-0 one.ran r after_two
-          (tables_then s at_one at_two at_four ((codes "archived", archived_at) ∷ (codes "import", import_at) ∷ []) host_made c.in_ok-execute-2.field-0 two.ran r after_three
-          (tables_then s at_two at_three at_four ((codes "import", import_at) ∷ []) archived_made c.in_ok-execute-3.field-0 three.ran r last.writes
-          (tables_last s at_three at_four import_made r last.ran)));
-      breaks = breaks_then s start at_one at_four c.in_ok-execute.field-0 one.writes r after_two (breaks_then s at_one at_two at_four c.in_ok-execute-2.field-0 two.writes r after_three (breaks_then s at_two at_three at_four c.in_ok-execute-3.field-0 three.writes r last.writes (create_breaks s at_three at_four import_made r last.refused)));
-    }
+    let one = makes_one grant_made c.in_ok-execute.ensures.writes c.in_ok-execute.ensures.ran c.in_ok-execute.ensures.refused in
+    let two = makes_one host_made c.in_ok-execute-2.ensures.writes c.in_ok-execute-2.ensures.ran c.in_ok-execute-2.ensures.refused in
+    let three = makes_one archived_made c.in_ok-execute-3.ensures.writes c.in_ok-execute-3.ensures.ran c.in_ok-execute-3.ensures.refused in
+    let four = last_one (makes_one import_made c.execute-4.ensures.writes c.execute-4.ensures.ran c.execute-4.ensures.refused) in
+    let it = made_then (λ old mid made over. tt) one (made_then (λ old mid made over. tt) two (made_then (λ old mid made over. tt) three four)) in
+    record { writes = it.writes; makes = it.makes; breaks = it.breaks tt }

@@ -1,33 +1,19 @@
 use Rattle.wu_schema.proofs.Words.{[], ◌∷◌}
-use Rattle.wu_schema.specs.Indexes.{queue_purge}
-use Rattle.wu_schema.proofs.BreakLemmas.{breaks_on, breaks_then, empty_next, index_breaks, index_fails}
-use Rattle.wu_schema.proofs.Words.{arith}
-use Rattle.wu_schema.proofs.CallLemmas.{never_ok}
+use Rattle.wu_schema.specs.Indexes.{moment_indexes, queue_purge, queue_wake}
+use Rattle.wu_schema.specs.Queue.{MakesIndexes, queue_table}
 use Rattle.wu_schema.proofs.CreateTexts.{purge_made, wake_made}
-use Rattle.wu_schema.proofs.StepLemmas.{frame_refused, frame_then, indexes_last, indexes_then}
+use Rattle.wu_schema.proofs.StepLemmas.{indexes_one, indexes_then, stopped}
 use Rattle.wu_schema.proofs.queue.create_moment_indexes.Goals as goal
 
 pub returns-in_err-execute : goal.returns-in_err-execute
 returns-in_err-execute g c =
-    let s = g.S.Store in
-    let start = c.args.tx.now in
-    let at_one = c.execute.new.tx in
-    let r = c.from_residual.result in
-    let is = c.from_residual.ensures.1 in
-    record { writes = frame_refused s start at_one c.in_err-execute.field-0.0 c.in_err-execute.ensures.writes r _ is; makes = λ clean. never_ok r _ _ is; breaks = λ over clean. (let here = over in breaks_on s start at_one c.in_err-execute.field-0.0 (index_fails s start at_one wake_made here c.in_err-execute.field-0.0 c.in_err-execute.ensures.refused) r is) clean }
+    let one = indexes_one wake_made c.in_err-execute.ensures.writes c.in_err-execute.ensures.ran c.in_err-execute.ensures.refused in
+    let it = stopped (MakesIndexes queue_table moment_indexes) one c.from_residual.result c.from_residual.ensures.1 in
+    record { writes = it.writes; makes = it.makes; breaks = it.breaks }
 
 pub returns : goal.returns
 returns g c =
-    let s = g.S.Store in
-    let start = c.args.tx.now in
-    let at_one = c.execute.new.tx in
-    let at_two = c.execute-2.new.tx in
-    let r = c.execute-2.result in
-    let one = c.in_ok-execute.ensures in
-    let last = c.execute-2.ensures in
-    record {
-      writes = frame_then s start at_one at_two c.in_ok-execute.field-0 one.writes r last.writes;
-      makes = indexes_then s start at_one at_two (queue_purge ∷ []) wake_made c.in_ok-execute.field-0 one.ran r last.writes
-          (indexes_last s at_one at_two purge_made r last.ran);
-      breaks = λ over clean. (let here = empty_next s start at_one wake_made c.in_ok-execute.field-0 c.in_ok-execute.ensures.ran (omega (arith, clean, last.writes.part.survives.clean)) (over) in breaks_then s start at_one at_two c.in_ok-execute.field-0 one.writes r last.writes (index_breaks s at_one at_two purge_made here r last.refused)) clean;
-    }
+    let one = indexes_one wake_made c.in_ok-execute.ensures.writes c.in_ok-execute.ensures.ran c.in_ok-execute.ensures.refused in
+    let two = indexes_one purge_made c.execute-2.ensures.writes c.execute-2.ensures.ran c.execute-2.ensures.refused in
+    let it = indexes_then (queue_wake ∷ []) (queue_purge ∷ []) one two in
+    record { writes = it.writes; makes = it.makes; breaks = it.breaks }

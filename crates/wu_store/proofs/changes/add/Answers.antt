@@ -1,13 +1,11 @@
-use Rattle.wu_schema.proofs.Words.{HasCleanDisk, arith, state, subst}
+use Rattle.wu_schema.proofs.Words.{Error, HasCleanDisk, Ok, arith, state, subst}
 use Rattle.wu_core.specs.declared.marks.Marks.{Marks}
-use Rattle.wu_schema.proofs.CallLemmas.{ok_both, ok_on}
-use Rattle.wu_schema.proofs.StepLemmas.{frame_then}
+use Rattle.wu_schema.proofs.CallLemmas.{does_then, ok_both}
 use Rattle.wu_schema.specs.Queue.{HasQueue}
 use Rattle.wu_store.specs.Changes.{with_placed}
 use Rattle.wu_store.specs.Queues.{with_marks}
 use Rattle.wu_store.specs.StandsFor.{marked}
 use Rattle.wu_store.proofs.MarkedLemmas.{marked_placed}
-use Rattle.wu_store.proofs.ChangeLemmas.{frame_after}
 use Rattle.wu_store.proofs.SpareLemmas.{of_queue}
 use Rattle.wu_schema.proofs.OthersLemmas.{spares_then}
 use Rattle.wu_schema.specs.Others.{tables_of_workunits}
@@ -33,18 +31,7 @@ returns-clause-adds g c clean =
           (subst (λ (m : Marks). HasQueue new (with_marks w.number m (marked world))) c.marks_of.ensures (puts (with_placed w world) (marked world) whole still));
     }) (c.insert_marks.ensures.puts clean) (c.insert_marks.ensures.stays clean)
 
-pub returns-clause-writes : goal.returns-clause-writes
-returns-clause-writes g c =
-    let r = c.insert_marks.result in
-    frame_then g.S.Store _ _ _ tt c.in_ok-insert_workunit.ensures.writes r (frame_after g.S.Store _ _ _ tt c.in_ok-insert_instances.ensures.works r c.insert_marks.ensures.writes)
-
 pub returns-clause-spares : goal.returns-clause-spares
 returns-clause-spares g c clean =
-    let old = (state g.S.Store c.args.tx.now.conn.now).now in
-    let mid = (state g.S.Store c.insert_workunit.new.tx.conn.now).now in
-    let late = (state g.S.Store c.insert_instances.new.tx.conn.now).now in
-    let new = (state g.S.Store c.insert_marks.new.tx.conn.now).now in
-    let last : HasCleanDisk (state g.S.Store c.insert_instances.new.tx.conn.now) = omega (arith, clean, c.insert_marks.ensures.writes.part.survives.clean) in
-    let first : HasCleanDisk (state g.S.Store c.insert_workunit.new.tx.conn.now) = omega (arith, last, c.in_ok-insert_instances.ensures.works.part.survives.clean) in
-    let front = spares_then tables_of_workunits old mid late (c.in_ok-insert_workunit.ensures.spares first) (c.in_ok-insert_instances.ensures.spares last) in
-    ok_on c.insert_marks.result _ _ (λ marks. spares_then tables_of_workunits old late new front (of_queue late new marks)) (c.insert_marks.ensures.spares clean)
+    let front = does_then {U = Unit {0}} {E = Error} g.S.Store c.args.tx.now c.insert_workunit.new.tx c.insert_instances.new.tx (Ok tt) (spares_then tables_of_workunits) c.in_ok-insert_workunit.ensures.spares c.in_ok-insert_instances.ensures.works.part c.in_ok-insert_instances.ensures.spares in
+    does_then g.S.Store c.args.tx.now c.insert_instances.new.tx c.insert_marks.new.tx c.insert_marks.result (λ old mid new before marks. spares_then tables_of_workunits old mid new before (of_queue mid new marks)) front c.insert_marks.ensures.writes.part c.insert_marks.ensures.spares clean

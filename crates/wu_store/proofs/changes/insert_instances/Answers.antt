@@ -1,5 +1,5 @@
 use Rattle.wu_schema.proofs.Words.{HasCleanDisk, Refines, ap, arith, get_or, length, refl, state, subst, sym, take, take_all, ◌<◌, ◌∙◌, ◌≡◌, ◌+◌}
-use Rattle.wu_schema.proofs.CallLemmas.{part_none, part_then}
+use Rattle.wu_store.proofs.ChangeLemmas.{works_none, works_once, works_then}
 use Rattle.wu_store.specs.Changes.{AddsInstance, with_placed}
 use Rattle.wu_store.proofs.PlacedLemmas.{first_instances, next_instance}
 use Rattle.wu_store.proofs.SpareLemmas.{of_result}
@@ -8,12 +8,12 @@ use Rattle.wu_schema.specs.Others.{tables_of_workunits}
 use Rattle.wu_store.proofs.changes.insert_instances.Goals as goal
 
 pub loop-instance-init : goal.loop-instance-init
-loop-instance-init g c = (refl, refl, part_none _, λ _. (λ within. within, spares_none tables_of_workunits _, (λ world none s. s, λ world marked none s q. q)))
+loop-instance-init g c = (refl, works_none _ _, λ _. (spares_none tables_of_workunits _, (λ world none s. s, λ world marked none s q. q)))
 
 pub loop-instance-preserved : goal.loop-instance-preserved
 loop-instance-preserved g c =
-    let (place, same, part, before) = c.loop-instance.invariant in
-    let wrote = c.insert_instance.ensures.writes in
+    let (place, works, before) = c.loop-instance.invariant in
+    let wrote = c.in_ok-insert_instance.ensures.writes in
     let w = c.args.workunit.now in
     let i = c.loop-instance.instance-index in
     let one = c.instance-item.result in
@@ -23,34 +23,27 @@ loop-instance-preserved g c =
     let old = (state g.S.Store c.loop-instance.tx.conn.now).now in
     let new = (state g.S.Store c.insert_instance.new.tx.conn.now).now in (
       ap (λ n. n + 1) place,
-      wrote.same_reference ∙ same,
-      part_then _ _ _ part wrote.part,
+      works_then works (works_once wrote),
       λ clean.
           let still : HasCleanDisk (state g.S.Store c.loop-instance.tx.conn.now) = omega (arith, wrote.part.survives.clean) in
           let adds : AddsInstance w.number i one old new = subst (λ n. AddsInstance w.number n one old new) place (c.in_ok-insert_instance.ensures.puts clean) in (
-            λ within. c.in_ok-insert_instance.ensures.writes.inside clean,
-            spares_then tables_of_workunits _ old new (before still).1 (of_result old new (c.in_ok-insert_instance.ensures.spares clean)),
+            spares_then tables_of_workunits _ old new (before still).0 (of_result old new (c.in_ok-insert_instance.ensures.spares clean)),
             (
-              λ world none s. next_instance old new w i one one world none low at adds ((before still).2.0 world none s),
-              λ world marked none s q. c.in_ok-insert_instance.ensures.queue clean (with_placed (first_instances i w) world) marked ((before still).2.0 world none s) ((before still).2.1 world marked none s q),
+              λ world none s. next_instance old new w i one one world none low at adds ((before still).1.0 world none s),
+              λ world marked none s q. c.in_ok-insert_instance.ensures.queue clean (with_placed (first_instances i w) world) marked ((before still).1.0 world none s) ((before still).1.1 world marked none s q),
             ),
           ),
     )
 
 pub returns-clause-adds : goal.returns-clause-adds
 returns-clause-adds g c clean world none s =
-    let (place, same, part, before) = c.loop-instance.invariant in
     let w = c.args.workunit.now in
     let items = c.as_slice-instances.ensures.items in
     let whole : take c.loop-instance.instance-index w.instances ≡ w.instances = ap (take c.loop-instance.instance-index) (sym items) ∙ take_all _ _ c.loop-instance-test.false ∙ items in
-    subst (λ is. Refines (state g.S.Store c.loop-instance.tx.conn.now).now (with_placed (record w { instances = is }) world)) whole ((before clean).2.0 world none s)
+    subst (λ is. Refines (state g.S.Store c.loop-instance.tx.conn.now).now (with_placed (record w { instances = is }) world)) whole ((c.loop-instance.invariant.2 clean).1.0 world none s)
 
 pub returns-clause-queue : goal.returns-clause-queue
-returns-clause-queue g c clean =
-    let (place, same, part, before) = c.loop-instance.invariant in
-    (before clean).2.1
+returns-clause-queue g c clean = (c.loop-instance.invariant.2 clean).1.1
 
 pub returns-clause-spares : goal.returns-clause-spares
-returns-clause-spares g c clean =
-    let (place, same, part, before) = c.loop-instance.invariant in
-    (before clean).1
+returns-clause-spares g c clean = (c.loop-instance.invariant.2 clean).0

@@ -1,5 +1,5 @@
-use Rattle.wu_schema.proofs.Words.{HasCleanDisk, arith, length, state, subst, ◌≤◌}
-use Rattle.wu_schema.proofs.CallLemmas.{ok_on}
+use Rattle.wu_schema.proofs.Words.{Error, HasCleanDisk, Ok, arith, length, state, subst, ◌≤◌}
+use Rattle.wu_schema.proofs.CallLemmas.{does_then, ok_on}
 use Rattle.wu_store.specs.Changes.{PutsInstances}
 use Rattle.wu_store.specs.StandsFor.{marked}
 use Rattle.wu_store.proofs.PlacedLemmas.{is_there}
@@ -33,14 +33,9 @@ returns-clause-replaces g c clean =
 
 pub returns-clause-spares : goal.returns-clause-spares
 returns-clause-spares g c clean =
-    let old = (state g.S.Store c.args.tx.now.conn.now).now in
-    let row = (state g.S.Store c.put_row.new.tx.conn.now).now in
-    let classed = (state g.S.Store c.put_class.new.tx.conn.now).now in
-    let late = (state g.S.Store c.put_instances.new.tx.conn.now).now in
-    let new = (state g.S.Store c.put_marks.new.tx.conn.now).now in
-    let last : HasCleanDisk (state g.S.Store c.put_instances.new.tx.conn.now) = omega (arith, clean, c.put_marks.ensures.works.part.survives.clean) in
-    let middle : HasCleanDisk (state g.S.Store c.put_class.new.tx.conn.now) = omega (arith, last, c.in_ok-put_instances.ensures.works.part.survives.clean) in
-    let first : HasCleanDisk (state g.S.Store c.put_row.new.tx.conn.now) = omega (arith, middle, c.in_ok-put_class.ensures.works.part.survives.clean) in
-    let both = spares_then tables_of_workunits old row classed (c.in_ok-put_row.ensures.spares first) (c.in_ok-put_class.ensures.spares middle) in
-    let front = spares_then tables_of_workunits old classed late both (c.in_ok-put_instances.ensures.spares last) in
-    ok_on c.put_marks.result _ _ (spares_then tables_of_workunits old late new front) (c.put_marks.ensures.spares clean)
+    let s = g.S.Store in
+    let start = c.args.tx.now in
+    let then = spares_then tables_of_workunits in
+    let both = does_then {U = Unit {0}} {E = Error} s start c.put_row.new.tx c.put_class.new.tx (Ok tt) then c.in_ok-put_row.ensures.spares c.in_ok-put_class.ensures.works.part c.in_ok-put_class.ensures.spares in
+    let front = does_then {U = Unit {0}} {E = Error} s start c.put_class.new.tx c.put_instances.new.tx (Ok tt) then both c.in_ok-put_instances.ensures.works.part c.in_ok-put_instances.ensures.spares in
+    does_then s start c.put_instances.new.tx c.put_marks.new.tx c.put_marks.result then front c.put_marks.ensures.works.part c.put_marks.ensures.spares clean

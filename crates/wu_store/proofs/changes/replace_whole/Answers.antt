@@ -1,6 +1,5 @@
 use Rattle.wu_schema.proofs.Words.{HasCleanDisk, arith, state}
-use Rattle.wu_schema.proofs.CallLemmas.{ok_on}
-use Rattle.wu_schema.proofs.StepLemmas.{frame_then}
+use Rattle.wu_schema.proofs.CallLemmas.{does_then, ok_on}
 use Rattle.wu_store.specs.Changes.{without_workunit}
 use Rattle.wu_store.proofs.MarkedLemmas.{stands_replaced, stands_without}
 use Rattle.wu_store.proofs.SpareLemmas.{of_workunit}
@@ -19,13 +18,6 @@ returns-clause-replaces g c clean =
     let gone = stands_without old mid world w.number stands (c.in_ok-delete_workunit.ensures.deletes still) (c.in_ok-delete_workunit.ensures.queue still) in
     stands_replaced old new world w stands.refines there (adds (without_workunit w.number world) queued gone)) (c.add.ensures.adds clean)
 
-pub returns-clause-writes : goal.returns-clause-writes
-returns-clause-writes g c = frame_then g.S.Store _ _ _ tt c.in_ok-delete_workunit.ensures.writes c.add.result c.add.ensures.writes
-
 pub returns-clause-spares : goal.returns-clause-spares
-returns-clause-spares g c clean =
-    let old = (state g.S.Store c.args.tx.now.conn.now).now in
-    let mid = (state g.S.Store c.delete_workunit.new.tx.conn.now).now in
-    let new = (state g.S.Store c.add.new.tx.conn.now).now in
-    let still : HasCleanDisk (state g.S.Store c.delete_workunit.new.tx.conn.now) = omega (arith, clean, c.add.ensures.writes.part.survives.clean) in
-    ok_on c.add.result _ _ (spares_then tables_of_workunits old mid new (of_workunit old mid (c.in_ok-delete_workunit.ensures.spares still))) (c.add.ensures.spares clean)
+returns-clause-spares g c =
+    does_then g.S.Store c.args.tx.now c.delete_workunit.new.tx c.add.new.tx c.add.result (λ old mid new gone. spares_then tables_of_workunits old mid new (of_workunit old mid gone)) c.in_ok-delete_workunit.ensures.spares c.add.ensures.writes.part c.add.ensures.spares

@@ -1,10 +1,9 @@
-use Rattle.wu_schema.proofs.Words.{Err, None, Ok, Some, [], ap, arith, inr, number, refl, state, subst, sym, ◌∙◌, ◌∷◌, ◌^◌, ◌≡◌, ◌≤◌}
+use Rattle.wu_schema.proofs.Words.{Err, None, Ok, Some, [], ap, arith, number, refl, state, subst, sym, ◌∙◌, ◌∷◌, ◌≡◌}
 use Rattle.std.specs.Prelude.{IfSome}
 use Rattle.wu_core.specs.Storable.{IsClass}
 use Rattle.wu_schema.proofs.Parts.{WorkClasses}
 use Rattle.wu_schema.proofs.InsertEffect.{also, no_more}
-use Rattle.wu_schema.specs.Reading.{IsReadFault}
-use Rattle.wu_store.proofs.AskLemmas.{asks_none, fault_handed, fault_read, handed_on, never_broken, nothing_handed, opens_handed, opens_made, read_handed, read_told, asked_row, reads_handed, reads_also, reads_made}
+use Rattle.wu_store.proofs.AskLemmas.{asked_row, fault_read, handed_on, never_broken, nothing_handed, opens_handed, opens_made, read_handed, reads_also, reads_handed, reads_made, reads_unkeyed}
 use Rattle.wu_store.proofs.ChangeLemmas.{sent_number}
 use Rattle.wu_store.proofs.ClassAnswers.{class_question, class_asked, class_fits, class_found, no_work, row_classed, shown_work}
 use Rattle.wu_store.proofs.LoadLemmas.{never_unread}
@@ -12,19 +11,13 @@ use Rattle.wu_store.proofs.classes.class_of_workunit.Goals as goal
 
 pub returns-in_err-key : goal.returns-in_err-key
 returns-in_err-key g c =
+    let key = c.in_err-key.ensures in
     let fault = c.in_err-key.field-0.0 in
     let r = c.from_residual.result in
     let same = c.from_residual.ensures.1 in
-    let refused : IsReadFault fault = inr c.in_err-key.ensures.refused in
-    let beyond : 2 ^ 63 ≤ c.args.number = c.in_err-key.ensures.beyond in
     record {
-      opens = λ low. absurd (omega (arith, low, beyond));
-      reads = record {
-        asks = asks_none g.S.Store c.args.conn.now r (never_broken r (read_handed r fault same refused));
-        fault = fault_handed r fault same (read_told fault refused);
-        found = λ clean world stood. nothing_handed r fault same _;
-        unrefused = λ clean world stood can limit. absurd (omega (arith, can.0, beyond));
-      };
+      opens = λ low. absurd (omega (arith, low, key.beyond));
+      reads = reads_handed g.S.Store _ _ r fault same (reads_unkeyed g.S.Store _ c.args.number fault key.refused key.beyond) (λ other told world. tt) (λ world stood can. can.0);
     }
 
 pub returns-in_err-row : goal.returns-in_err-row

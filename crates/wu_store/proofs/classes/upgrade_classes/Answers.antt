@@ -1,7 +1,5 @@
 use Rattle.wu_schema.proofs.Words.{HasCleanDisk, arith, refl, state, Schema, [], subst, sym, ◌∷◌}
 use Rattle.wu_schema.proofs.CallLemmas.{ok_both, ok_on}
-use Rattle.wu_schema.proofs.StepLemmas.{frame_then}
-use Rattle.wu_store.proofs.ChangeLemmas.{frame_after}
 use Rattle.wu_store.proofs.SpareLemmas.{project_there}
 use Rattle.wu_schema.proofs.OthersLemmas.{others_kept, others_then}
 use Rattle.wu_schema.specs.Others.{AreThere}
@@ -16,11 +14,6 @@ returns-clause-upgrades g c clean =
     ok_both c.set_version.result _ _ _ (λ sets keeps world older s same.
     let (filled, tables, stays) = c.in_ok-fill_classes.ensures.fills last world older (made.stands world s) same made.classes in
     (sets world refl older filled tables, λ marked q. keeps world marked filled (stays marked (made.queue marked q)))) (c.set_version.ensures.sets clean) (c.set_version.ensures.queue clean)
-
-pub returns-clause-writes : goal.returns-clause-writes
-returns-clause-writes g c =
-    let r = c.set_version.result in
-    frame_then g.S.Store _ _ _ tt c.in_ok-make_classes.ensures.writes r (frame_after g.S.Store _ _ _ tt c.in_ok-fill_classes.ensures.works r c.set_version.ensures.writes)
 
 pub returns-clause-spares : goal.returns-clause-spares
 returns-clause-spares g c clean =

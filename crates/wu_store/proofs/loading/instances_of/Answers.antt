@@ -1,9 +1,8 @@
-use Rattle.wu_schema.proofs.Words.{Err, Ok, [], arith, inr, number, refl, state, ◌∙◌, ◌∷◌, ◌^◌, ◌≡◌, ◌≤◌}
+use Rattle.wu_schema.proofs.Words.{Err, Ok, [], number, refl, state, ◌∙◌, ◌∷◌, ◌≡◌}
 use Rattle.wu_schema.proofs.Parts.{Instances}
 use Rattle.wu_schema.proofs.InsertEffect.{also, no_more}
 use Rattle.wu_store.specs.Answers.{instance_rows_of}
-use Rattle.wu_schema.specs.Reading.{IsReadFault}
-use Rattle.wu_store.proofs.AskLemmas.{asked_all, asks_none, fault_handed, fault_read, match_handed, never_broken, nothing_handed, question, read_handed, read_told, reads_handed, reads_also}
+use Rattle.wu_store.proofs.AskLemmas.{asked_all, fault_read, never_broken, nothing_handed, question, reads_also, reads_handed, reads_unkeyed}
 use Rattle.wu_store.proofs.ChangeLemmas.{sent_number}
 use Rattle.wu_store.proofs.SelectTexts.{instances_asked, instances_fits}
 use Rattle.wu_store.proofs.InstanceAnswers as answers
@@ -12,19 +11,13 @@ use Rattle.wu_store.proofs.loading.instances_of.Goals as goal
 
 pub returns-in_err-key : goal.returns-in_err-key
 returns-in_err-key g c =
+    let key = c.in_err-key.ensures in
     let fault = c.in_err-key.field-0.0 in
     let r = c.from_residual.result in
     let same = c.from_residual.ensures.1 in
-    let refused : IsReadFault fault = inr c.in_err-key.ensures.refused in
-    let beyond : 2 ^ 63 ≤ c.args.workunit = c.in_err-key.ensures.beyond in
     record {
       stored = nothing_handed r fault same _;
-      reads = record {
-        asks = asks_none g.S.Store c.args.conn.now r (never_broken r (read_handed r fault same refused));
-        fault = fault_handed r fault same (read_told fault refused);
-        found = λ clean world stands. match_handed r fault same _ (read_told fault refused);
-        unrefused = λ clean world stands has limit. absurd (omega (arith, has.0, beyond));
-      };
+      reads = reads_handed g.S.Store _ _ r fault same (reads_unkeyed g.S.Store _ c.args.workunit fault key.refused key.beyond) (λ other told world. told) (λ world stands has. has.0);
     }
 
 pub returns-in_err-rows : goal.returns-in_err-rows

@@ -1,31 +1,24 @@
-use Rattle.wu_schema.proofs.Words.{Err, Ok, Workunit, [], arith, inr, number, refl, state, ◌∷◌, ◌^◌, ◌≤◌, nat_lt}
+use Rattle.wu_schema.proofs.Words.{Err, Ok, Workunit, [], arith, number, refl, state, ◌∷◌, nat_lt}
 use Rattle.wu_schema.proofs.Parts.{Workunits}
 use Rattle.wu_schema.proofs.InsertEffect.{also, no_more}
 use Rattle.wu_store.specs.Answers.{row_above}
-use Rattle.wu_schema.specs.Reading.{IsReadFault}
 use Rattle.wu_store.proofs.ChangeLemmas.{sent_number}
 use Rattle.wu_store.proofs.SelectTexts.{above_asked, above_fits}
 use Rattle.wu_store.proofs.OrderAnswers.{above_found}
-use Rattle.wu_store.proofs.AskLemmas.{asked_row, asks_none, fault_handed, match_handed, never_broken, nothing_handed, opens_handed, opens_then, question, read_handed, read_told, reads_handed, reads_can}
+use Rattle.wu_store.proofs.AskLemmas.{asked_row, nothing_handed, opens_handed, opens_then, question, reads_can, reads_handed, reads_unkeyed}
 use Rattle.wu_store.proofs.LoadLemmas.{early_then}
 use Rattle.wu_store.proofs.loading.load_above.Goals as goal
 
 pub returns-in_err-key : goal.returns-in_err-key
 returns-in_err-key g c =
+    let key = c.in_err-key.ensures in
     let fault = c.in_err-key.field-0.0 in
     let r = c.from_residual.result in
     let same = c.from_residual.ensures.1 in
-    let refused : IsReadFault fault = inr c.in_err-key.ensures.refused in
-    let beyond : 2 ^ 63 ≤ c.args.number = c.in_err-key.ensures.beyond in
     record {
-      opens = λ low. absurd (omega (arith, low, beyond));
+      opens = λ low. absurd (omega (arith, low, key.beyond));
       formed = nothing_handed r fault same _;
-      reads = record {
-        asks = asks_none g.S.Store c.args.conn.now r (never_broken r (read_handed r fault same refused));
-        fault = fault_handed r fault same (read_told fault refused);
-        found = λ clean world stands early. match_handed r fault same _ (read_told fault refused);
-        unrefused = λ clean world stands can limit. absurd (omega (arith, can.1, beyond));
-      };
+      reads = reads_handed g.S.Store _ _ r fault same (reads_unkeyed g.S.Store _ c.args.number fault key.refused key.beyond) (λ other told world early. told) (λ world stands can. can.1);
     }
 
 pub returns-in_err-row : goal.returns-in_err-row

@@ -12,6 +12,6 @@ returns g c =
     let new = c.ask_count.new.conn in
     let q = c.ask_count.ensures in
     let r = c.ask_count.result in
-    let it = asked_count g.S.Store (class_count_question HostClasses (λ version known. known) (counting COUNT_CLASSES.now) None classes_fit [] refl (λ _. refl)) old new [] refl class_count
+    let it = asked_count g.S.Store (class_count_question HostClasses (λ version known. known) (counting COUNT_CLASSES.now) classes_fit [] refl (λ _. refl)) old new [] refl class_count
     (λ rows h world stood. classes_counted (state g.S.Store old) (state g.S.Store new) world stood.1 rows stood.0 h) r q.asks q.opens q.shows q.fails q.told in
     record { opens = it.opens; reads = it.reads }

@@ -12,6 +12,6 @@ returns g c =
     let new = c.ask_count.new.conn in
     let q = c.ask_count.ensures in
     let r = c.ask_count.result in
-    let it = asked_count g.S.Store (count_question Imports (λ _. tt) (counting COUNT_IMPORTS.now) None imports_fit [] refl (λ _. refl)) old new [] refl import_count
+    let it = asked_count g.S.Store (count_question Imports (λ _. tt) (counting COUNT_IMPORTS.now) imports_fit [] refl (λ _. refl)) old new [] refl import_count
     (λ rows h world s. imports_counted (state g.S.Store old) (state g.S.Store new) world s rows h) r q.asks q.opens q.shows q.fails q.told in
     record { opens = it.opens; reads = it.reads }
