@@ -1,5 +1,5 @@
 -- Lines of a script, as lines of the command line.
-use Rattle.std.specs.Prelude.{◌≡◌, ◌⊎◌, ℕ, Bool, true, false, List, ◌∷◌, [], ◌++◌, bytes_eq, codes, drop, slice_get, Option, Some, None, Result, Ok, Err}
+use Rattle.std.specs.Prelude.{◌≡◌, ◌⊎◌, ℕ, Bool, true, false, List, ◌∷◌, [], ◌++◌, bytes_eq, codes, drop, if◌then◌else◌, slice_get, Option, Some, None, Result, Ok, Err}
 use Rattle.std.specs.Option.{option_map_or}
 use Rattle.wu_core.specs.declared.fault.Fault.TheVariants.{Memory}
 use Rattle.wu_feed.specs.declared.script.LineCause.{LineCause}
@@ -14,6 +14,8 @@ use Rattle.wu_arguments.specs.declared.refusal.Outsider.{Outsider}
 use Rattle.wu_arguments.specs.declared.refusal.Outsider.TheVariants as outsider
 use Rattle.wu_arguments.specs.declared.refusal.Refusal.{Refusal}
 use Rattle.wu_arguments.specs.declared.refusal.Refusal.TheVariants as refusal
+use Rattle.wu_arguments.specs.declared.script.Mode.{Mode}
+use Rattle.wu_arguments.specs.declared.script.Mode.TheVariants.{Once, Repeated, Tried}
 
 -- The words of a script's line as words of the command line: the program's name before them, and the database after
 -- them.
@@ -40,6 +42,11 @@ abbrev pub repeated_refusal : Refusal → Refusal
 repeated_refusal (refusal.Outsider (outsider.Export export)) = refusal.Repeat
 repeated_refusal why = why
 
+-- The refusal of what was to be tried: an export is neither a command nor a view.
+abbrev pub tried_refusal : Refusal → Refusal
+tried_refusal (refusal.Outsider (outsider.Export export)) = refusal.Try
+tried_refusal why = why
+
 -- The words read as this line, or as this refusal; any words may be out of memory.
 abbrev pub ReadsWords : List (List ℕ) → Result Line Refusal → Type 0
 ReadsWords words (Ok line) = IsLineOf words line
@@ -47,6 +54,7 @@ ReadsWords words (Err (refusal.Text cause)) = ⊥
 ReadsWords words (Err (refusal.Words usage)) = Explains words usage
 ReadsWords words (Err (refusal.Outsider outsider)) = (order : Order) × IsOrderOf words order × (outsider_of order ≡ Some outsider)
 ReadsWords words (Err refusal.Repeat) = ⊥
+ReadsWords words (Err refusal.Try) = ⊥
 ReadsWords words (Err (refusal.Fault fault)) = fault ≡ Memory
 
 -- Whether a line is one pass, which can be repeated.
@@ -62,16 +70,28 @@ ReadsRepeated words (Err why) =
     ((line : Line) × IsLineOf words line × (is_pass line.asking ≡ false) × (why ≡ refusal.Repeat))
     ⊎ ((other : Refusal) × ReadsWords words (Err other) × (why ≡ repeated_refusal other))
 
--- Whether the first word is `repeat`.
-abbrev pub asks_to_repeat : List (List ℕ) → Bool
-asks_to_repeat words = option_map_or (λ word. bytes_eq word (codes "repeat")) (slice_get words 0) false
+-- The words after `try` read as a line, or are refused: an export as `Try`.
+abbrev pub ReadsTried : List (List ℕ) → Result Line Refusal → Type 0
+ReadsTried words (Ok line) = IsLineOf words line
+ReadsTried words (Err why) = (other : Refusal) × ReadsWords words (Err other) × (why ≡ tried_refusal other)
 
-abbrev pub ReadsWordsOf : List ℕ → List (List ℕ) → Bool → Result Line Refusal → Type 0
-ReadsWordsOf db words true result = ReadsRepeated (command_words db (drop 1 words)) result
-ReadsWordsOf db words false result = ReadsWords (command_words db words) result
+-- How a line is done that begins with this word.
+abbrev pub mode_of_word : List ℕ → Mode
+mode_of_word word =
+    if bytes_eq word (codes "repeat") then Repeated
+    else if bytes_eq word (codes "try") then Tried else Once
+
+-- How the line of these words is done.
+abbrev pub mode_of : List (List ℕ) → Mode
+mode_of words = option_map_or mode_of_word (slice_get words 0) Once
+
+abbrev pub ReadsWordsOf : List ℕ → List (List ℕ) → Mode → Result Line Refusal → Type 0
+ReadsWordsOf db words Once result = ReadsWords (command_words db words) result
+ReadsWordsOf db words Repeated result = ReadsRepeated (command_words db (drop 1 words)) result
+ReadsWordsOf db words Tried result = ReadsTried (command_words db (drop 1 words)) result
 
 -- A line of a script reads as this line or this refusal. A line that cannot be split into words is refused for that
 -- cause.
-abbrev pub ReadsScriptLine : List ℕ → Result (List (List ℕ)) LineCause → Bool → Result Line Refusal → Type 0
-ReadsScriptLine db (Ok words) repeats result = (repeats ≡ asks_to_repeat words) × ReadsWordsOf db words repeats result
-ReadsScriptLine db (Err cause) repeats result = (repeats ≡ false) × (result ≡ Err (refusal.Text cause))
+abbrev pub ReadsScriptLine : List ℕ → Result (List (List ℕ)) LineCause → Mode → Result Line Refusal → Type 0
+ReadsScriptLine db (Ok words) mode result = (mode ≡ mode_of words) × ReadsWordsOf db words mode result
+ReadsScriptLine db (Err cause) mode result = (mode ≡ Once) × (result ≡ Err (refusal.Text cause))

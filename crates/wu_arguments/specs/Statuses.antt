@@ -35,6 +35,7 @@ refusal_status (refusal.Text cause) = 2
 refusal_status (refusal.Words usage) = usage_status usage
 refusal_status (refusal.Outsider outsider) = 2
 refusal_status refusal.Repeat = 2
+refusal_status refusal.Try = 2
 refusal_status (refusal.Fault fault) = fault_status fault
 
 abbrev pub status_of_line : Option LineFault → ℕ

@@ -1,5 +1,5 @@
 -- The steps of a script: what its lines ask of a project, with the contents of their files.
-use Rattle.std.specs.Prelude.{◌≡◌, ◌⊎◌, ℕ, Bool, List, [], ◌∷◌, ◌++◌, Option, Result, Ok, Err, ⊤}
+use Rattle.std.specs.Prelude.{◌≡◌, ◌⊎◌, ℕ, List, [], ◌∷◌, ◌++◌, Option, Result, Ok, Err, ⊤}
 use Rattle.wu_core.specs.declared.fault.Fault.{Fault}
 use Rattle.wu_core.specs.declared.fault.Fault.TheVariants.{Memory}
 use Rattle.wu_feed.specs.declared.script.ScriptLine.{ScriptLine}
@@ -8,6 +8,7 @@ use Rattle.wu_arguments.specs.Scripts.{ReadsScriptLine}
 use Rattle.wu_arguments.specs.declared.line.Line.{Line}
 use Rattle.wu_arguments.specs.declared.refusal.Refusal.{Refusal}
 use Rattle.wu_arguments.specs.declared.refusal.Refusal.TheVariants as refusal
+use Rattle.wu_arguments.specs.declared.script.Mode.{Mode}
 use Rattle.wu_arguments.specs.declared.step.BadLine.{BadLine}
 use Rattle.wu_arguments.specs.declared.step.Step.{Step}
 
@@ -19,14 +20,14 @@ module _ (gives : List ℕ → ℕ → Option (List ℕ) → Type 0) (db : List 
   -- The line is refused: for its words, or for a value or a file of what its words ask for.
   abbrev pub IsRefusedFor : ScriptLine → Refusal → Type 0
   IsRefusedFor line why =
-      (repeats : Bool)
-      × (ReadsScriptLine db line.words repeats (Err why)
-      ⊎ ((asked : Line) × (fault : Fault) × ReadsScriptLine db line.words repeats (Ok asked) × Prepares gives asked.asking (Err fault) × (why ≡ refusal.Fault fault)))
+      (mode : Mode)
+      × (ReadsScriptLine db line.words mode (Err why)
+      ⊎ ((asked : Line) × (fault : Fault) × ReadsScriptLine db line.words mode (Ok asked) × Prepares gives asked.asking (Err fault) × (why ≡ refusal.Fault fault)))
 
   -- The step of a line, with its number; or why the line cannot be run.
   abbrev pub GivesStep : ScriptLine → Result Step Refusal → Type 0
   GivesStep line (Ok step) =
-      (step.number ≡ line.number) × ((asked : Line) × ReadsScriptLine db line.words step.repeats (Ok asked) × Prepares gives asked.asking (Ok step.action))
+      (step.number ≡ line.number) × ((asked : Line) × ReadsScriptLine db line.words step.mode (Ok asked) × Prepares gives asked.asking (Ok step.action))
   GivesStep line (Err why) = IsRefusedFor line why
 
   -- The steps are those of the lines, one each, in order.

@@ -28,6 +28,7 @@ pub use option::{LineOption, OptionForm, OptionValue};
 pub use order::{Export, ExportOrder, LintOrder, Order, OutputFiles, ScriptFile, Topic};
 pub use reading::{read_up_to, text_of_script, unread};
 pub use refusal::{Outsider, Refusal};
+pub use script::Mode;
 pub use status::{UNOPENED, exit_status, fault_status};
 pub use step::{BadLine, LineFault, Step, steps_of};
 pub use subcommand::{Subcommand, SubcommandForm};

@@ -3,7 +3,7 @@
 ghost use Rattle.std.specs.Prelude.{◌≡◌};
 ghost use Rattle.wu_core.specs.declared.fault.Fault.TheVariants as fault;
 ghost use Rattle.wu_arguments.specs.declared.refusal.Refusal.TheVariants as why;
-ghost use Rattle.wu_arguments.specs.Scripts.{export_asked, repeated_refusal};
+ghost use Rattle.wu_arguments.specs.Scripts.{export_asked, repeated_refusal, tried_refusal};
 ghost use Rattle.wu_arguments.specs.Statuses.{refusal_status};
 
 use crate::order::Export;
@@ -35,6 +35,8 @@ pub enum Refusal {
     Outsider(Outsider),
     /// What it repeats is no pass.
     Repeat,
+    /// What it tries is no line.
+    Try,
     /// A value or a file of it is refused.
     Fault(Fault),
 }
@@ -47,6 +49,7 @@ impl Drop for Refusal {
             Refusal::Words(_usage) => {}
             Refusal::Outsider(_outsider) => {}
             Refusal::Repeat => {}
+            Refusal::Try => {}
             Refusal::Fault(_fault) => {}
         }
     }
@@ -107,13 +110,24 @@ impl Refusal {
         }
     }
 
+    /// Returns the refusal of what was to be tried: an export is neither a command nor a view.
+    pub fn of_tried(self) -> Refusal
+        // An export is refused as what cannot be tried, and all else as it was.
+        ensures { result ≡ tried_refusal self }
+    {
+        match self {
+            Refusal::Outsider(Outsider::Export(_)) => Refusal::Try,
+            why => why,
+        }
+    }
+
     /// Returns the status that the program ends with for this refusal.
     pub fn status(&self) -> u8
         // The status is 2, except for out of memory and for a fault, which have their own.
         ensures { result ≡ refusal_status self.now }
     {
         match self {
-            Refusal::Text(_) | Refusal::Outsider(_) | Refusal::Repeat => 2,
+            Refusal::Text(_) | Refusal::Outsider(_) | Refusal::Repeat | Refusal::Try => 2,
             Refusal::Words(usage) => usage.status(),
             Refusal::Fault(fault) => fault_status(*fault),
         }

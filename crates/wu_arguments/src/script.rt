@@ -1,7 +1,7 @@
 //! The lines of a script as lines of the command line.
 
 ghost use Rattle.std.specs.Prelude.{◌≡◌, ◌++◌, ◌∷◌, ◌<◌, codes, drop, IfOk, length, map, string_bytes};
-ghost use Rattle.wu_arguments.specs.Scripts.{asks_to_repeat, command_words, ReadsRepeated, ReadsWords, ReadsWordsOf};
+ghost use Rattle.wu_arguments.specs.Scripts.{command_words, mode_of, mode_of_word, ReadsRepeated, ReadsTried, ReadsWords, ReadsWordsOf};
 
 use crate::line::{Asking, Line};
 use crate::order::Order;
@@ -68,14 +68,47 @@ fn pass_of_words(alloc: Global, db: &str, words: Words) -> Result<Line, Refusal>
     }
 }
 
-/// Returns whether the first of these words is `repeat`.
-pub fn asks_to_repeat(words: &[String]) -> bool
-    // The answer is whether the first word is `repeat`.
-    ensures { result ≡ asks_to_repeat (map string_bytes words.now) }
+/// Returns the line that these words of a script ask for, which stand after `try`.
+fn tried_of_words(alloc: Global, db: &str, words: Words) -> Result<Line, Refusal>
+    ensures { ReadsTried (command_words db.now words) result }
+{
+    match line_of_words(alloc, db, words) {
+        Ok(line) => Ok(line),
+        Err(why) => Err(why.of_tried()),
+    }
+}
+
+/// How a line of a script is done.
+#[derive(Clone, Copy, PartialEq, Eq)]
+pub enum Mode {
+    /// Once; each fault ends the script.
+    Once,
+    /// Until its pass handles less than its limit; each fault ends the script.
+    Repeated,
+    /// Once; the script goes on after a refusal.
+    Tried,
+}
+
+/// Returns how a line is done that begins with this word.
+fn mode_of_word(word: &str) -> Mode
+    ensures { result ≡ mode_of_word word.now }
+{
+    match word {
+        "repeat" => Mode::Repeated,
+        "try" => Mode::Tried,
+        _ => Mode::Once,
+    }
+}
+
+/// Returns how the line of these words is done, by the first of them.
+pub fn mode_of(words: &[String]) -> Mode
+    // The first word says how: `repeat` and `try` do, and any other word is of a line that is done
+    // once.
+    ensures { result ≡ mode_of (map string_bytes words.now) }
 {
     match words.first() {
-        Some(word) => word.as_str() == "repeat",
-        None => false,
+        Some(word) => mode_of_word(word.as_str()),
+        None => Mode::Once,
     }
 }
 
@@ -89,18 +122,18 @@ fn without_first(words: Words) -> Words
     Words::from_vec(words)
 }
 
-/// Returns the line that a script's words ask for, once or to be repeated.
-pub fn line_of_all(alloc: Global, db: &str, words: Words, repeats: bool) -> Result<Line, Refusal>
-    // The line is to be repeated exactly where its first word is `repeat`.
-    requires { repeats ≡ asks_to_repeat words }
+/// Returns the line that a script's words ask for, which is done in this way.
+pub fn line_of_all(alloc: Global, db: &str, words: Words, mode: Mode) -> Result<Line, Refusal>
+    // The first word of the line says how it is done.
+    requires { mode ≡ mode_of words }
     // A line is the command line of its words, with the program's name before and the database
     // after. It is refused by `clap`, for what stands in no script, or by out of memory;
     // and only a pass can be repeated.
-    ensures { ReadsWordsOf db.now words repeats result }
+    ensures { ReadsWordsOf db.now words mode result }
 {
-    if repeats {
-        pass_of_words(alloc, db, without_first(words))
-    } else {
-        line_of_words(alloc, db, words)
+    match mode {
+        Mode::Once => line_of_words(alloc, db, words),
+        Mode::Repeated => pass_of_words(alloc, db, without_first(words)),
+        Mode::Tried => tried_of_words(alloc, db, without_first(words)),
     }
 }

@@ -7,7 +7,7 @@ ghost use Rattle.wu_arguments.specs.Steps.{GivesStep, GivesSteps, lacks_memory};
 use crate::action::{Action, read_and_prepare};
 use crate::files::ReadFile;
 use crate::refusal::Refusal;
-use crate::script::{asks_to_repeat, line_of_all};
+use crate::script::{Mode, line_of_all, mode_of};
 use std::alloc::Global;
 use wu_core::Fault;
 use wu_feed::{Rows, ScriptLine};
@@ -16,8 +16,8 @@ use wu_feed::{Rows, ScriptLine};
 pub struct Step {
     /// Its place among the lines of the script, from 1.
     pub number: u64,
-    /// Whether its action, which is one pass, is done until that handles less than its limit.
-    pub repeats: bool,
+    /// How its action is done. One that is repeated is a pass.
+    pub mode: Mode,
     pub action: Action,
 }
 
@@ -26,7 +26,7 @@ impl Drop for Step {
     fn drop(self) {
         let Step {
             number: _number,
-            repeats: _repeats,
+            mode: _mode,
             action: _action,
         } = self;
     }
@@ -40,7 +40,7 @@ impl Step {
     {
         let Step {
             number: _number,
-            repeats: _repeats,
+            mode: _mode,
             action,
         } = self;
         action
@@ -115,12 +115,12 @@ fn step_of<F: ReadFile>(
 {
     let ScriptLine { number, words } = line;
     let words = words?;
-    let repeats = asks_to_repeat(words.as_slice());
-    let asked = line_of_all(alloc, db, words, repeats)?;
+    let mode = mode_of(words.as_slice());
+    let asked = line_of_all(alloc, db, words, mode)?;
     let action = read_and_prepare(alloc, &asked, files)?;
     Ok(Step {
         number,
-        repeats,
+        mode,
         action,
     })
 }
@@ -129,8 +129,8 @@ fn step_of<F: ReadFile>(
 /// cannot be run.
 ///
 /// The files of a line are read only if the lines before it can be run. A line is the command line of its words,
-/// followed by `--db` and this database. Where the first word is `repeat` it is the line of the others, which has to be
-/// a pass.
+/// followed by `--db` and this database. Where the first word is `repeat` or `try` it is the line of the others. What
+/// stands after `repeat` has to be a pass.
 pub fn steps_of<F: ReadFile>(
     alloc: Global,
     db: &str,

@@ -1,4 +1,6 @@
 mod TextLemmas
+mod ActionLemmas
+mod TryLemmas
 pub mod ScriptLemmas
 mod RepeatLemmas
 pub mod PrintLemmas

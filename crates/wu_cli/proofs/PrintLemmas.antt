@@ -1,5 +1,5 @@
 -- What goes out for an action and for the steps of a script.
-use Rattle.std.proofs.Common.{◌≡◌, ◌∙◌, ◌⊎◌, ◌++◌, ◌∷◌, [], ℕ, List, Option, Some, None, IfSome, IsSome, refl, sym, ap, subst, arith, inl, inr, append_assoc, take, drop, take-append-drop}
+use Rattle.std.proofs.Common.{◌≡◌, ◌∙◌, ◌⊎◌, ◌++◌, ◌∷◌, [], ℕ, List, Option, Some, None, IfSome, IsSome, refl, sym, ap, subst, arith, inl, inr, append_assoc, append-nil, take, drop, take-append-drop, true}
 use Rattle.std.proofs.KnownBytes.{Appends-nil, Appends-trans}
 use Rattle.std.proofs.Math.Seq.{take-length}
 use Rattle.std.specs.Io.KnownBytes.{Appends}
@@ -14,7 +14,7 @@ use Rattle.wu_machine.specs.Commands.{request_of}
 use Rattle.wu_machine.specs.Machine.{IsUpToDate, reply, step}
 use Rattle.wu_passes.specs.declared.project.Project.{Project}
 use Rattle.wu_machine.proofs.Versions.{up_to_date}
-use Rattle.wu_passes.proofs.SessionLemmas.{none_older}
+use Rattle.wu_passes.proofs.SessionLemmas.{none_older, present_none}
 use Rattle.wu_passes.specs.Projects.{IsSessionOpen, older_version, ShowsProject, state_of}
 use Rattle.wu_store.specs.StandsFor.{KnowsClasses}
 use Rattle.wu_report.specs.Texts.{view_text}
@@ -22,17 +22,25 @@ use Rattle.wu_report.specs.Views.{RefusesWith}
 use Rattle.wu_report.specs.Writing.{AppendsFront, WritesTo}
 use Rattle.wu_report.proofs.WritingLemmas.{AppendsFront-after, AppendsFront-longer, AppendsFront-nothing}
 use Rattle.wu_drive.specs.Driving.{AnswerAll}
+use Rattle.wu_drive.specs.Running.{RunsList}
+use Rattle.wu_drive.specs.declared.runs.Run.{Run}
 use Rattle.wu_drive.specs.Writing.{answer_text, answers_text}
 use Rattle.wu_arguments.specs.declared.action.Action.{Action}
 use Rattle.wu_arguments.specs.declared.action.Action.TheVariants.{Commands, Look}
+use Rattle.wu_passes.specs.Adopting.{older_than_present}
+use Rattle.wu_arguments.specs.declared.script.Mode.{Mode}
+use Rattle.wu_arguments.specs.declared.script.Mode.TheVariants.{Once, Repeated, Tried}
 use Rattle.wu_arguments.specs.declared.step.LineFault.{LineFault}
 use Rattle.wu_arguments.specs.declared.step.Step.{Step}
 use Rattle.wu_cli.specs.Performing.{as_result, Performs}
-use Rattle.wu_cli.specs.Printing.{printed_action, printed_replies, printed_reply, printed_steps, PrintsAction, PrintsSteps}
-use Rattle.wu_cli.specs.Repeating.{commands_of_action, commands_of_steps, unrolled, world_behind}
+use Rattle.wu_cli.specs.Printing.{printed_accepted, printed_action, printed_by, printed_replies, printed_reply, printed_steps, PrintsAction, PrintsSteps, shown_text}
+use Rattle.wu_cli.specs.Repeating.{commands_of_step, commands_of_steps, unrolled, world_behind}
 use Rattle.wu_cli.specs.Scripting.{PerformsEach, PerformsScript, PerformsSteps}
-use Rattle.wu_cli.specs.Working.{script_outcome}
-use Rattle.wu_cli.proofs.ScriptLemmas.{each_clean, each_done, each_goes, one_clean, one_done, one_goes, shown_present, world_both, world_of}
+use Rattle.wu_cli.specs.Trying.{accepted, EndsTried, is_refusal, PassesOver, PerformsBy, refusal_line, refusal_of}
+use Rattle.wu_cli.specs.Working.{line_outcome, script_outcome}
+use Rattle.wu_cli.proofs.ActionLemmas.{shown_present, world_both, world_of}
+use Rattle.wu_cli.proofs.ScriptLemmas.{each_clean, each_done, each_goes}
+use Rattle.wu_cli.proofs.TryLemmas.{accepted_front, all_accepted, by_clean, by_done, by_goes, no_end, not_output, refused_as, refused_at, view_refused}
 
 -- ---- texts of answers
 
@@ -52,15 +60,15 @@ replies_both world (x ∷ xs) ys =
     ap (λ text. printed_reply (reply world (request_of x)) ++ text) (replies_both (step world (request_of x)) xs ys)
     ∙ sym (append_assoc (printed_reply (reply world (request_of x))) (printed_replies (step world (request_of x)) xs) (printed_replies (world_of (step world (request_of x)) xs) ys))
 
-steps_both : (world : World) (xs ys : List Step) → printed_steps world (xs ++ ys) ≡ printed_steps world xs ++ printed_steps (world_of world (commands_of_steps xs)) ys
+steps_both : (world : World) (xs ys : List Step) → printed_steps world (xs ++ ys) ≡ printed_steps world xs ++ printed_steps (world_of world (commands_of_steps world xs)) ys
 steps_both world [] ys = refl
 steps_both world (x ∷ xs) ys =
-    let mine = commands_of_action x.action in
-    let rest : printed_steps (world_behind world x.action) (xs ++ ys) ≡ printed_steps (world_behind world x.action) xs ++ printed_steps (world_of world (mine ++ commands_of_steps xs)) ys =
-    steps_both (world_behind world x.action) xs ys
-    ∙ ap (λ (w : World). printed_steps (world_behind world x.action) xs ++ printed_steps w ys) (sym (world_both world mine (commands_of_steps xs))) in
-    ap (λ text. printed_action world x.action ++ text) rest
-    ∙ sym (append_assoc (printed_action world x.action) (printed_steps (world_behind world x.action) xs) (printed_steps (world_of world (mine ++ commands_of_steps xs)) ys))
+    let mine = commands_of_step world x in
+    let mid = world_behind world x in
+    let text = printed_by x.mode world x.action in
+    let rest : printed_steps mid (xs ++ ys) ≡ printed_steps mid xs ++ printed_steps (world_of world (mine ++ commands_of_steps mid xs)) ys =
+    steps_both mid xs ys ∙ ap (λ (w : World). printed_steps mid xs ++ printed_steps w ys) (sym (world_both world mine (commands_of_steps mid xs))) in
+    ap (λ more. text ++ more) rest ∙ sym (append_assoc text (printed_steps mid xs) (printed_steps (world_of world (mine ++ commands_of_steps mid xs)) ys))
 
 -- ---- one action
 
@@ -75,6 +83,24 @@ module _ {S W : Type 0} {store : Ghosts S} (contents : W → Option (List ℕ)) 
   none_written fault None some refused = absurd cc
   none_written fault (Some version) some refused = refused.2
 
+  -- a prefix of the texts of commands that begin with those that were done
+  front_prints : (commands all : List Command) (run : Run) → RunsList contents old new out_old out_new commands run
+      → IsSessionOpen old → HasCleanDisk (state_of new) → (world : World) → ShowsProject old world → take run.acknowledged all ≡ take run.acknowledged commands
+      → AppendsFront (contents out_old) (contents out_new) (printed_replies world all)
+  front_prints commands all run runs going clean world shows same =
+      let (answers, written, drives, drives_from) = runs.answers in
+      let driven = drives_from going clean world shows in
+      let done = take run.acknowledged all in
+      let left = drop run.acknowledged all in
+      let texts : answers_text answers ≡ printed_replies world done =
+      replies_are world (take run.acknowledged commands) answers driven.answered ∙ ap (λ cs. printed_replies world cs) (sym same) in
+      let whole : printed_replies world all ≡ printed_replies world done ++ printed_replies (world_of world done) left =
+      ap (λ cs. printed_replies world cs) (sym (take-append-drop run.acknowledged all)) ∙ replies_both world done left in
+      let front : AppendsFront (contents out_old) (contents out_new) (answers_text answers) = (written.front.0, written.front.2) in
+      subst (AppendsFront (contents out_old) (contents out_new)) (sym whole)
+      (AppendsFront-longer (contents out_old) (contents out_new) (printed_replies world done) (printed_replies (world_of world done) left)
+      (subst (AppendsFront (contents out_old) (contents out_new)) texts front))
+
   pub one_prints : (action : Action) (end : Option Fault) → Performs contents old new out_old out_new action end → PrintsAction contents old new out_old out_new action end
   one_prints (Commands commands) None (run, runs, is) going clean world shows =
       let (answers, written, drives, drives_from) = runs.answers in
@@ -84,18 +110,7 @@ module _ {S W : Type 0} {store : Ghosts S} (contents : W → Option (List ℕ)) 
       replies_are world (take run.acknowledged commands) answers driven.answered ∙ ap (λ cs. printed_replies world cs) all in
       subst (Appends (contents out_old) (contents out_new)) texts
       (written.whole (λ cut. absurd (let no : ◌≡◌ {A = Option Fault} None (Some Output) = sym is ∙ cut in cc)))
-  one_prints (Commands commands) (Some fault) (run, runs, is) going clean world shows =
-      let (answers, written, drives, drives_from) = runs.answers in
-      let driven = drives_from going clean world shows in
-      let done = take run.acknowledged commands in
-      let left = drop run.acknowledged commands in
-      let texts : answers_text answers ≡ printed_replies world done = replies_are world done answers driven.answered in
-      let whole : printed_replies world commands ≡ printed_replies world done ++ printed_replies (world_of world done) left =
-      ap (λ cs. printed_replies world cs) (sym (take-append-drop run.acknowledged commands)) ∙ replies_both world done left in
-      let front : AppendsFront (contents out_old) (contents out_new) (answers_text answers) = (written.front.0, written.front.2) in
-      subst (AppendsFront (contents out_old) (contents out_new)) (sym whole)
-      (AppendsFront-longer (contents out_old) (contents out_new) (printed_replies world done) (printed_replies (world_of world done) left)
-      (subst (AppendsFront (contents out_old) (contents out_new)) texts front))
+  one_prints (Commands commands) (Some fault) (run, runs, is) going clean world shows = front_prints commands commands run runs going clean world shows refl
   one_prints (Look view) None sees going clean world shows =
       sees.text going clean world (with_classes world (shown_present contents old new out_old out_new view sees going world shows)) shows.shows
   one_prints (Look view) (Some fault) sees going clean world shows = elim (none_or_some (older_version old)) [
@@ -109,6 +124,87 @@ module _ {S W : Type 0} {store : Ghosts S} (contents : W → Option (List ℕ)) 
       none_or_some None = inl refl
       none_or_some (Some version) = inr refl
 
+  -- ---- a tried one
+
+  -- all that it did was accepted
+  accepted_prints : (action : Action) → Performs contents old new out_old out_new action None → IsSessionOpen old → HasCleanDisk (state_of new) → (world : World) → ShowsProject old world
+      → Appends (contents out_old) (contents out_new) (printed_accepted world action)
+  accepted_prints (Commands commands) does going clean world shows =
+      let all = (all_accepted contents old new out_old out_new (Commands commands) does going clean world shows).0 in
+      subst (λ cs. Appends (contents out_old) (contents out_new) (printed_replies world cs)) (sym all) (one_prints (Commands commands) None does going clean world shows)
+  accepted_prints (Look view) sees going clean world shows =
+      let present = present_none world.version (shown_present contents old new out_old out_new view sees going world shows) in
+      subst (λ o. Appends (contents out_old) (contents out_new) (shown_text o (view_text world view))) present (one_prints (Look view) None sees going clean world shows)
+
+  -- it was refused
+  pub refused_prints : (action : Action) (fault : Fault) → Performs contents old new out_old out_new action (Some fault) → is_refusal fault ≡ true
+      → IsSessionOpen old → HasCleanDisk (state_of new) → (world : World) → ShowsProject old world
+      → Appends (contents out_old) (contents out_new) (printed_accepted world action)
+  refused_prints (Commands commands) fault (run, runs, is) refused going clean world shows =
+      let (answers, written, drives, drives_from) = runs.answers in
+      let driven = drives_from going clean world shows in
+      let are = (refused_at contents old new out_old out_new commands fault run runs is refused going clean world shows).0 in
+      subst (Appends (contents out_old) (contents out_new)) (replies_are world (take run.acknowledged commands) answers driven.answered ∙ ap (λ cs. printed_replies world cs) (sym are))
+      (written.whole (λ cut. absurd (not_output fault refused (let same : ◌≡◌ {A = Option Fault} (Some fault) (Some Output) = sym is ∙ cut in cc))))
+  refused_prints (Look view) fault sees refused going clean world shows =
+      let (version, older, told, same, unwritten) = view_refused contents old new out_old out_new view fault sees refused going in
+      subst (λ o. Appends (contents out_old) (contents out_new) (shown_text o (view_text world view))) (sym older ∙ shows.version)
+      (subst (λ c. Appends (contents out_old) c []) (sym unwritten) (Appends-nil (contents out_old)))
+
+  -- another fault ended it
+  ended_prints : (action : Action) (fault : Fault) → Performs contents old new out_old out_new action (Some fault) → IsSessionOpen old → HasCleanDisk (state_of new) → (world : World) → ShowsProject old world
+      → AppendsFront (contents out_old) (contents out_new) (printed_accepted world action)
+  ended_prints (Commands commands) fault (run, runs, is) going clean world shows =
+      let driven = runs.answers.3 going clean world shows in
+      front_prints commands (accepted world commands) run runs going clean world shows (accepted_front world commands runs.answers.0 run.acknowledged driven.answered)
+  ended_prints (Look view) fault sees going clean world shows =
+      subst (λ o. AppendsFront (contents out_old) (contents out_new) (shown_text o (view_text world view))) shows.version (by_version (older_version old) refl)
+    where
+      by_version : (older : Option ℕ) → older_version old ≡ older → AppendsFront (contents out_old) (contents out_new) (shown_text (older_version old) (view_text world view))
+      by_version None is = subst (λ o. AppendsFront (contents out_old) (contents out_new) (shown_text o (view_text world view))) (sym is) (one_prints (Look view) (Some fault) sees going clean world shows)
+      by_version (Some version) is =
+          subst (λ c. AppendsFront (contents out_old) c (shown_text (older_version old) (view_text world view)))
+          (sym (none_written fault (older_version old) (subst (λ o. IsSome o) (sym is) refl) (sees.refused.older going)))
+          (AppendsFront-nothing (contents out_old) (shown_text (older_version old) (view_text world view)))
+
+module _ {S W : Type 0} {store : Ghosts S} (contents : W → Option (List ℕ)) (old new : Project S store) where
+  -- the line of a refusal behind the answers
+  passed_prints : (out_old out_done out_new : W) (world : World) (action : Action) (fault : Fault) (end : Option Fault) → Appends (contents out_old) (contents out_done) (printed_accepted world action)
+      → refusal_of world action ≡ Some fault → PassesOver contents out_done out_new fault end → WritesTo contents out_old out_new (printed_by Tried world action) (line_outcome end)
+  passed_prints out_old out_done out_new world action fault None whole is passed =
+      Appends-trans (contents out_old) (contents out_done) (contents out_new) (printed_accepted world action) (refusal_line (refusal_of world action)) whole
+      (subst (λ r. Appends (contents out_done) (contents out_new) (refusal_line r)) (sym is) passed)
+  passed_prints out_old out_done out_new world action fault (Some end) whole is passed =
+      AppendsFront-after (contents out_old) (contents out_done) (contents out_new) (printed_accepted world action) (refusal_line (refusal_of world action)) whole
+      (subst (λ r. AppendsFront (contents out_done) (contents out_new) (refusal_line r)) (sym is) passed.1)
+
+  tried_prints : (out_old out_done out_new : W) (action : Action) (told end : Option Fault) → Performs contents old new out_old out_done action told → EndsTried contents out_done out_new told end
+      → IsSessionOpen old → HasCleanDisk (state_of new) → (world : World) → ShowsProject old world → WritesTo contents out_old out_new (printed_by Tried world action) (line_outcome end)
+  tried_prints out_old out_done out_new action None end does (none, same) going clean world shows =
+      let no_line : printed_accepted world action ++ [] ≡ printed_by Tried world action =
+      ap (λ r. printed_accepted world action ++ refusal_line r) (sym (all_accepted contents old new out_old out_done action does going clean world shows).1) in
+      let whole : Appends (contents out_old) (contents out_new) (printed_by Tried world action) =
+      subst (λ o. Appends (contents out_old) (contents o) (printed_by Tried world action)) (sym same)
+      (subst (Appends (contents out_old) (contents out_done)) (sym (append-nil (printed_accepted world action)) ∙ no_line)
+      (accepted_prints contents old new out_old out_done action does going clean world shows)) in
+      subst (λ e. WritesTo contents out_old out_new (printed_by Tried world action) (line_outcome e)) (sym none) whole
+  tried_prints out_old out_done out_new action (Some fault) end does (inl (refused, passed)) going clean world shows =
+      passed_prints out_old out_done out_new world action fault end
+      (refused_prints contents old new out_old out_done action fault does refused going clean world shows)
+      (refused_as contents old new out_old out_done action fault does refused going clean world shows) passed
+  tried_prints out_old out_done out_new action (Some fault) end does (inr (other, is, same)) going clean world shows =
+      let front : AppendsFront (contents out_old) (contents out_new) (printed_by Tried world action) =
+      subst (λ o. AppendsFront (contents out_old) (contents o) (printed_by Tried world action)) (sym same)
+      (AppendsFront-longer (contents out_old) (contents out_done) (printed_accepted world action) (refusal_line (refusal_of world action))
+      (ended_prints contents old new out_old out_done action fault does going clean world shows)) in
+      subst (λ e. WritesTo contents out_old out_new (printed_by Tried world action) (line_outcome e)) (sym is) front
+
+  pub by_prints : (out_old out_new : W) (mode : Mode) (action : Action) (end : Option Fault) → PerformsBy contents mode old new out_old out_new action end
+      → IsSessionOpen old → HasCleanDisk (state_of new) → (world : World) → ShowsProject old world → WritesTo contents out_old out_new (printed_by mode world action) (line_outcome end)
+  by_prints out_old out_new Once action end does = one_prints contents old new out_old out_new action end does
+  by_prints out_old out_new Repeated action end does = one_prints contents old new out_old out_new action end does
+  by_prints out_old out_new Tried action end tries = tried_prints out_old tries.out_done out_new action tries.told end tries.does tries.ends
+
 -- ---- all steps
 
 module _ {S W : Type 0} {store : Ghosts S} (contents : W → Option (List ℕ)) where
@@ -121,27 +217,27 @@ module _ {S W : Type 0} {store : Ghosts S} (contents : W → Option (List ℕ)) 
   each_prints old new out_old out_new (one ∷ steps) each going clean world shows =
       let rest_clean = each_clean contents each.0 new each.1 out_new steps each.3 in
       let before : HasCleanDisk (state_of each.0) = omega (arith, rest_clean, clean) in
-      let first = one_prints contents old each.0 out_old each.1 one.action None each.2 going before world shows in
-      let done = one_done contents old each.0 out_old each.1 one.action each.2 going before world shows in
-      let still = one_goes contents old each.0 out_old each.1 one.action each.2 going in
-      let rest = each_prints each.0 new each.1 out_new steps each.3 still clean (world_behind world one.action) done.2 in
-      Appends-trans (contents out_old) (contents each.1) (contents out_new) (printed_action world one.action) (printed_steps (world_behind world one.action) steps) first rest
+      let first = by_prints contents old each.0 out_old each.1 one.mode one.action None each.2 going before world shows in
+      let done = by_done contents old each.0 out_old each.1 one.mode one.action each.2 going before world shows in
+      let still = by_goes contents old each.0 out_old each.1 one.mode one.action each.2 going in
+      let rest = each_prints each.0 new each.1 out_new steps each.3 still clean (world_behind world one) done.2 in
+      Appends-trans (contents out_old) (contents each.1) (contents out_new) (printed_by one.mode world one.action) (printed_steps (world_behind world one) steps) first rest
 
   steps_print : (old new : Project S store) (out_old out_new : W) (steps : List Step) (end : Option LineFault) → PerformsSteps contents old new out_old out_new steps end
       → IsSessionOpen old → HasCleanDisk (state_of new) → (world : World) → ShowsProject old world
       → WritesTo contents out_old out_new (printed_steps world steps) (script_outcome end)
   steps_print old new out_old out_new steps None each going clean world shows = each_prints old new out_old out_new steps each going clean world shows
   steps_print old new out_old out_new steps (Some end) until going clean world shows =
-      let last_clean = one_clean contents until.mid new until.out_mid out_new until.last.action (Some end.fault) until.ends in
+      let last_clean = by_clean contents until.mid new until.out_mid out_new until.last.mode until.last.action (Some end.fault) until.ends in
       let before : HasCleanDisk (state_of until.mid) = omega (arith, last_clean, clean) in
       let firsts = each_prints old until.mid out_old until.out_mid until.before until.each going before world shows in
       let done = each_done contents old until.mid out_old until.out_mid until.before until.each going before world shows in
       let still = each_goes contents old until.mid out_old until.out_mid until.before until.each going in
-      let mid = world_of world (commands_of_steps until.before) in
-      let last = one_prints contents until.mid new until.out_mid out_new until.last.action (Some end.fault) until.ends still clean mid done.2 in
+      let mid = world_of world (commands_of_steps world until.before) in
+      let last = by_prints contents until.mid new until.out_mid out_new until.last.mode until.last.action (Some end.fault) until.ends still clean mid done.2 in
       let so_long = printed_steps world until.before in
-      let its = printed_action mid until.last.action in
-      let behind = printed_steps (world_behind mid until.last.action) until.after in
+      let its = printed_by until.last.mode mid until.last.action in
+      let behind = printed_steps (world_behind mid until.last) until.after in
       let whole : printed_steps world steps ≡ (so_long ++ its) ++ behind =
       ap (λ ss. printed_steps world ss) until.order ∙ steps_both world until.before (until.last ∷ until.after) ∙ sym (append_assoc so_long its behind) in
       subst (AppendsFront (contents out_old) (contents out_new)) (sym whole)

@@ -1,7 +1,6 @@
 -- From round to round of a repeated step, and from step to step of a script.
-use Rattle.std.proofs.Common.{◌≡◌, ◌∙◌, ℕ, zero, suc, ◌+◌, ◌-◌, ◌<◌, ◌≤◌, Bool, true, false, if◌then◌else◌, List, [], ◌∷◌, ◌++◌, take, replicate, Option, Some, None, refl, sym, ap, subst, arith, append_assoc, append-nil}
+use Rattle.std.proofs.Common.{◌≡◌, ◌≢◌, ◌∙◌, ℕ, zero, suc, ◌+◌, ◌-◌, ◌<◌, ◌≤◌, Bool, true, false, if◌then◌else◌, List, [], ◌∷◌, ◌++◌, take, replicate, Option, Some, None, refl, sym, ap, subst, arith, append_assoc, append-nil}
 use Rattle.std.proofs.lemmas.List.{replicate_more}
-use Rattle.std.proofs.lemmas.List.Concat.{flat_map-append}
 use Rattle.sqlite.specs.State.{HasCleanDisk}
 use Rattle.sqlite_trees.specs.declared.store.Store.{Ghosts}
 use Rattle.wu_core.specs.World.{World}
@@ -12,12 +11,16 @@ use Rattle.wu_machine.specs.declared.command.Command.{Command}
 use Rattle.wu_passes.specs.declared.project.Project.{Project}
 use Rattle.wu_passes.specs.Projects.{IsSessionOpen, ShowsProject, state_of}
 use Rattle.wu_arguments.specs.declared.action.Action.TheVariants.{Commands}
+use Rattle.wu_arguments.specs.declared.script.Mode.{Mode}
+use Rattle.wu_arguments.specs.declared.script.Mode.TheVariants.{Once, Repeated, Tried}
 use Rattle.wu_arguments.specs.declared.step.LineFault.{LineFault}
 use Rattle.wu_arguments.specs.declared.step.Step.{Step}
-use Rattle.wu_cli.specs.Performing.{Performs}
-use Rattle.wu_cli.specs.Repeating.{AreRepeated, commands_of_action, commands_of_steps, fill_limit, is_full, most_rounds, rounds, rounds_of, unrolled, world_behind, world_behind_steps}
+use Rattle.wu_cli.specs.Trying.{PerformsBy}
+use Rattle.wu_cli.specs.Repeating.{AreRepeated, commands_of_step, commands_of_steps, fill_limit, is_full, most_rounds, rounds, rounds_of, unrolled, world_behind, world_behind_steps}
 use Rattle.wu_cli.specs.Scripting.{PerformsEach, PerformsScript, PerformsStep, PerformsSteps, PerformsUntil, TellsFull}
-use Rattle.wu_cli.proofs.ScriptLemmas.{each_both, each_clean, each_done, each_goes, each_more, each_none, one_clean, until_both, world_both, world_of}
+use Rattle.wu_cli.proofs.ActionLemmas.{world_both, world_of}
+use Rattle.wu_cli.proofs.ScriptLemmas.{commands_both, each_both, each_clean, each_done, each_goes, each_more, each_none, until_both}
+use Rattle.wu_cli.proofs.TryLemmas.{by_clean}
 
 -- ---- whether there may be more to do
 
@@ -32,7 +35,7 @@ tells_full old new commands run handled counts all none going clean world shows 
 
 steps_behind : (world : World) (xs ys : List Step) → world_behind_steps world (xs ++ ys) ≡ world_behind_steps (world_behind_steps world xs) ys
 steps_behind world xs ys =
-    ap (λ cs. world_of world cs) (flat_map-append (λ (s : Step). commands_of_action s.action) xs ys) ∙ world_both world (commands_of_steps xs) (commands_of_steps ys)
+    ap (λ cs. world_of world cs) (commands_both world xs ys) ∙ world_both world (commands_of_steps world xs) (commands_of_steps (world_behind_steps world xs) ys)
 
 unrolled_both : (world : World) (xs ys : List Step) → unrolled world (xs ++ ys) ≡ unrolled world xs ++ unrolled (world_behind_steps world (unrolled world xs)) ys
 unrolled_both world [] ys = refl
@@ -48,9 +51,16 @@ repeated_both (x ∷ xs) ys first second (times, more, order, some, once, rest) 
     (times, more ++ second, ap (λ l. l ++ second) order ∙ append_assoc (replicate times x) more second, some, once, repeated_both xs ys more second rest two)
 
 -- a step is done
-some_rounds : (repeats : Bool) → 1 ≤ most_rounds repeats
-some_rounds true = omega arith
-some_rounds false = omega arith
+some_rounds : (mode : Mode) → 1 ≤ most_rounds mode
+some_rounds Once = omega arith
+some_rounds Repeated = omega arith
+some_rounds Tried = omega arith
+
+-- a step that is not repeated is done once
+one_round : (mode : Mode) → mode ≢ Repeated → most_rounds mode ≡ 1
+one_round Once single = refl
+one_round Repeated single = absurd (single refl)
+one_round Tried single = refl
 
 repeated_self : (steps : List Step) → AreRepeated steps steps
 repeated_self [] = refl
@@ -69,51 +79,51 @@ replicate_split (suc i) more step =
 -- how often a step is still to be done behind so many rounds
 abbrev pub AreLeft : World → Step → ℕ → Type 0
 AreLeft world step i =
-    rounds world step ≡ i + rounds_of (world_behind_steps world (replicate i step)) step.action (most_rounds step.repeats - i)
+    rounds world step ≡ i + rounds_of (world_behind_steps world (replicate i step)) step (most_rounds step.mode - i)
 
 -- how often behind one round more
 abbrev left_behind : World → Step → ℕ → ℕ
 left_behind world step i =
     let here = world_behind_steps world (replicate i step) in
-    if is_full here step.action then rounds_of (world_behind here step.action) step.action (most_rounds step.repeats - (i + 1)) else zero
+    if is_full here step.action then rounds_of (world_behind here step) step (most_rounds step.mode - (i + 1)) else zero
 
 all_left : (world : World) (step : Step) → AreLeft world step 0
 all_left world step =
-    let same : most_rounds step.repeats ≡ most_rounds step.repeats - 0 = omega arith in
-    let here : rounds world step ≡ rounds_of world step.action (most_rounds step.repeats - 0) = ap (λ m. rounds_of world step.action m) same in
+    let same : most_rounds step.mode ≡ most_rounds step.mode - 0 = omega arith in
+    let here : rounds world step ≡ rounds_of world step (most_rounds step.mode - 0) = ap (λ m. rounds_of world step m) same in
     omega (arith, here)
 
-one_more : (world : World) (step : Step) (i : ℕ) → i < most_rounds step.repeats → AreLeft world step i → rounds world step ≡ i + suc (left_behind world step i)
+one_more : (world : World) (step : Step) (i : ℕ) → i < most_rounds step.mode → AreLeft world step i → rounds world step ≡ i + suc (left_behind world step i)
 one_more world step i within left =
-    let next : most_rounds step.repeats - i ≡ suc (most_rounds step.repeats - (i + 1)) = omega (arith, within) in
-    left ∙ ap (λ m. i + rounds_of (world_behind_steps world (replicate i step)) step.action m) next
+    let next : most_rounds step.mode - i ≡ suc (most_rounds step.mode - (i + 1)) = omega (arith, within) in
+    left ∙ ap (λ m. i + rounds_of (world_behind_steps world (replicate i step)) step m) next
 
-next_behind : (world : World) (step : Step) (i : ℕ) → world_behind_steps world (replicate (i + 1) step) ≡ world_behind (world_behind_steps world (replicate i step)) step.action
+next_behind : (world : World) (step : Step) (i : ℕ) → world_behind_steps world (replicate (i + 1) step) ≡ world_behind (world_behind_steps world (replicate i step)) step
 next_behind world step i =
     ap (λ ss. world_behind_steps world ss) (sym (replicate_more i step)) ∙ steps_behind world (replicate i step) (step ∷ [])
-    ∙ ap (λ cs. world_of (world_behind_steps world (replicate i step)) cs) (append-nil (commands_of_action step.action))
+    ∙ ap (λ cs. world_of (world_behind_steps world (replicate i step)) cs) (append-nil (commands_of_step (world_behind_steps world (replicate i step)) step))
 
-left_next : (world : World) (step : Step) (i : ℕ) → i < most_rounds step.repeats → AreLeft world step i → is_full (world_behind_steps world (replicate i step)) step.action ≡ true
+left_next : (world : World) (step : Step) (i : ℕ) → i < most_rounds step.mode → AreLeft world step i → is_full (world_behind_steps world (replicate i step)) step.action ≡ true
     → AreLeft world step (i + 1)
 left_next world step i within left full =
-    let rest : World → ℕ = λ w. rounds_of w step.action (most_rounds step.repeats - (i + 1)) in
+    let rest : World → ℕ = λ w. rounds_of w step (most_rounds step.mode - (i + 1)) in
     let here : rounds world step ≡ i + suc (rest (world_behind_steps world (replicate (i + 1) step))) =
     one_more world step i within left
-    ∙ ap (λ b. i + suc (if b then rest (world_behind (world_behind_steps world (replicate i step)) step.action) else zero)) full
+    ∙ ap (λ b. i + suc (if b then rest (world_behind (world_behind_steps world (replicate i step)) step) else zero)) full
     ∙ ap (λ w. i + suc (rest w)) (sym (next_behind world step i)) in
     omega (arith, here)
 
-left_none : (world : World) (step : Step) (i : ℕ) → i < most_rounds step.repeats → AreLeft world step i → is_full (world_behind_steps world (replicate i step)) step.action ≡ false
+left_none : (world : World) (step : Step) (i : ℕ) → i < most_rounds step.mode → AreLeft world step i → is_full (world_behind_steps world (replicate i step)) step.action ≡ false
     → rounds world step ≡ i + 1
 left_none world step i within left full =
     let here = world_behind_steps world (replicate i step) in
     one_more world step i within left
-    ∙ ap (λ b. i + suc (if b then rounds_of (world_behind here step.action) step.action (most_rounds step.repeats - (i + 1)) else zero)) full
+    ∙ ap (λ b. i + suc (if b then rounds_of (world_behind here step) step (most_rounds step.mode - (i + 1)) else zero)) full
 
-left_out : (world : World) (step : Step) (i : ℕ) → most_rounds step.repeats ≤ i → i ≤ most_rounds step.repeats → AreLeft world step i → rounds world step ≡ i
+left_out : (world : World) (step : Step) (i : ℕ) → most_rounds step.mode ≤ i → i ≤ most_rounds step.mode → AreLeft world step i → rounds world step ≡ i
 left_out world step i all within left =
-    let none : most_rounds step.repeats - i ≡ 0 = omega (arith, all) in
-    let here : rounds world step ≡ i + 0 = left ∙ ap (λ m. i + rounds_of (world_behind_steps world (replicate i step)) step.action m) none in
+    let none : most_rounds step.mode - i ≡ 0 = omega (arith, all) in
+    let here : rounds world step ≡ i + 0 = left ∙ ap (λ m. i + rounds_of (world_behind_steps world (replicate i step)) step m) none in
     omega (arith, here)
 
 module _ {S W : Type 0} {store : Ghosts S} (contents : W → Option (List ℕ)) where
@@ -130,15 +140,15 @@ module _ {S W : Type 0} {store : Ghosts S} (contents : W → Option (List ℕ)) 
     left = λ going clean world shows. all_left world step;
   }
 
-  module _ (old mid new : Project S store) (out_old out_mid out_new : W) (step : Step) (i : ℕ) (within : i < most_rounds step.repeats) (has : HasRounds old mid out_old out_mid step i) where
+  module _ (old mid new : Project S store) (out_old out_mid out_new : W) (step : Step) (i : ℕ) (within : i < most_rounds step.mode) (has : HasRounds old mid out_old out_mid step i) where
     -- the next round was done
-    module _ (does : Performs contents mid new out_mid out_new step.action None) (told : Bool) (tells : TellsFull mid new step.action None told) where
+    module _ (does : PerformsBy contents step.mode mid new out_mid out_new step.action None) (told : Bool) (tells : TellsFull mid new step.action None told) where
       each_here : PerformsEach contents old new out_old out_new (replicate (i + 1) step)
       each_here = subst (λ l. PerformsEach contents old new out_old out_new l) (replicate_more i step)
           (each_more contents old mid new out_old out_mid out_new (replicate i step) step has.each does)
 
       was_clean : HasCleanDisk (state_of new) → HasCleanDisk (state_of mid)
-      was_clean clean = let kept = one_clean contents mid new out_mid out_new step.action None does in omega (arith, kept, clean)
+      was_clean clean = let kept = by_clean contents mid new out_mid out_new step.mode step.action None does in omega (arith, kept, clean)
 
       told_here : IsSessionOpen old → HasCleanDisk (state_of new) → (world : World) → ShowsProject old world
           → told ≡ is_full (world_behind_steps world (replicate i step)) step.action
@@ -164,18 +174,18 @@ module _ {S W : Type 0} {store : Ghosts S} (contents : W → Option (List ℕ)) 
             (sym (left_none world step i within (has.left going (was_clean clean) world shows) (sym (told_here going clean world shows) ∙ full))) each_here;
       }
         where
-          only_one : step.repeats ≡ false → i + 1 ≡ 1
-          only_one single = let most = ap most_rounds single in omega (arith, within, most)
+          only_one : step.mode ≢ Repeated → i + 1 ≡ 1
+          only_one single = let most = one_round step.mode single in omega (arith, within, most)
 
     -- it ended with a fault
-    pub rounds_cut : (fault : Fault) → Performs contents mid new out_mid out_new step.action (Some fault) → PerformsStep contents old new out_old out_new step (Some (record { number = step.number; fault = fault }))
+    pub rounds_cut : (fault : Fault) → PerformsBy contents step.mode mid new out_mid out_new step.action (Some fault) → PerformsStep contents old new out_old out_new step (Some (record { number = step.number; fault = fault }))
     rounds_cut fault does = record {
       times = i + 1;
       some = omega arith;
-      once = λ single. let most = ap most_rounds single in omega (arith, within, most);
+      once = λ single. let most = one_round step.mode single in omega (arith, within, most);
       does = cut (replicate (i + 1) step) [] (sym (replicate_more i step));
       over = λ going clean world shows.
-          let kept = one_clean contents mid new out_mid out_new step.action (Some fault) does in
+          let kept = by_clean contents mid new out_mid out_new step.mode step.action (Some fault) does in
           let before : HasCleanDisk (state_of mid) = omega (arith, kept, clean) in
           let left = one_more world step i within (has.left going before world shows) in
           cut (replicate (rounds world step) step) (replicate (left_behind world step i) step)
@@ -196,12 +206,12 @@ module _ {S W : Type 0} {store : Ghosts S} (contents : W → Option (List ℕ)) 
         }
 
   -- all rounds were done
-  pub rounds_all : (old new : Project S store) (out_old out_new : W) (step : Step) (i : ℕ) → most_rounds step.repeats ≤ i → i ≤ most_rounds step.repeats → HasRounds old new out_old out_new step i
+  pub rounds_all : (old new : Project S store) (out_old out_new : W) (step : Step) (i : ℕ) → most_rounds step.mode ≤ i → i ≤ most_rounds step.mode → HasRounds old new out_old out_new step i
       → PerformsStep contents old new out_old out_new step None
   rounds_all old new out_old out_new step i all within has = record {
     times = i;
-    some = let one = some_rounds step.repeats in omega (arith, all, one);
-    once = λ single. let most = ap most_rounds single in omega (arith, within, all, most);
+    some = let one = some_rounds step.mode in omega (arith, all, one);
+    once = λ single. let most = one_round step.mode single in omega (arith, within, all, most);
     does = has.each;
     over = λ going clean world shows.
         subst (λ n. PerformsEach contents old new out_old out_new (replicate n step)) (sym (left_out world step i all within (has.left going clean world shows))) has.each;
@@ -261,5 +271,5 @@ module _ {S W : Type 0} {store : Ghosts S} (contents : W → Option (List ℕ)) 
         was_clean : HasCleanDisk (state_of new) → HasCleanDisk (state_of mid)
         was_clean clean =
             let first_kept = each_clean contents mid next.does.mid out_mid next.does.out_mid next.does.before next.does.each in
-            let last_kept = one_clean contents next.does.mid new next.does.out_mid out_new next.does.last.action (Some end.fault) next.does.ends in
+            let last_kept = by_clean contents next.does.mid new next.does.out_mid out_new next.does.last.mode next.does.last.action (Some end.fault) next.does.ends in
             omega (arith, first_kept, last_kept, clean)

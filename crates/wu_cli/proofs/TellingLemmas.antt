@@ -1,30 +1,34 @@
 -- How many commands of a script were done, and what it put out of them.
-use Rattle.std.proofs.Common.{◌≡◌, ◌∙◌, ℕ, ◌+◌, Bool, false, List, [], ◌++◌, length, take, Option, Some, None, refl, sym, ap, subst, arith}
-use Rattle.std.proofs.Math.Seq.{take-length}
+use Rattle.std.proofs.Common.{◌≡◌, ◌∙◌, inl, inr, ℕ, ◌+◌, Bool, false, List, [], ◌∷◌, ◌++◌, length, Option, Some, None, refl, sym, ap, subst, arith}
 use Rattle.sqlite.specs.State.{HasCleanDisk}
 use Rattle.sqlite_trees.specs.declared.store.Store.{Ghosts}
 use Rattle.wu_core.specs.World.{World}
 use Rattle.wu_core.specs.declared.fault.Fault.{Fault}
-use Rattle.wu_drive.specs.Driving.{AnswerAll, Drives}
+use Rattle.wu_drive.specs.Driving.{Drives}
 use Rattle.wu_drive.specs.declared.runs.Run.{Run}
+use Rattle.wu_drive.proofs.DrivingLemmas.{one_fault}
 use Rattle.wu_drive.proofs.LifeLemmas.{lengthens}
 use Rattle.wu_machine.specs.declared.command.Answer.{Answer}
 use Rattle.wu_machine.specs.Sessions.{world_of_life}
-use Rattle.wu_machine.specs.Sound.{IsProject}
 use Rattle.wu_passes.specs.declared.project.Project.{Project}
 use Rattle.wu_passes.specs.Projects.{IsOver, IsSessionOpen, has_ended, state_of}
-use Rattle.wu_passes.specs.Standing.{GoesOn}
 use Rattle.wu_passes.proofs.SessionLemmas.{over_shows}
+use Rattle.wu_report.specs.Writing.{AppendsFront}
 use Rattle.wu_arguments.specs.declared.action.Action.{Action}
 use Rattle.wu_arguments.specs.declared.action.Action.TheVariants.{Commands, Look}
+use Rattle.wu_arguments.specs.declared.script.Mode.{Mode}
+use Rattle.wu_arguments.specs.declared.script.Mode.TheVariants.{Once, Repeated, Tried}
 use Rattle.wu_arguments.specs.declared.step.LineFault.{LineFault}
 use Rattle.wu_arguments.specs.declared.step.Step.{Step}
 use Rattle.wu_cli.specs.Performing.{Performs}
-use Rattle.wu_cli.specs.Repeating.{commands_of_action, commands_of_steps, unrolled}
+use Rattle.wu_cli.specs.Repeating.{commands_by, commands_of_action, commands_of_steps, unrolled, world_behind}
 use Rattle.wu_cli.specs.Scripting.{PerformsScript, PerformsSteps, so_far}
-use Rattle.wu_cli.specs.Telling.{DrivesCommands, DrivesSteps, LengthensBySteps, TellsAction}
-use Rattle.wu_cli.proofs.PrintLemmas.{each_prints, one_prints}
-use Rattle.wu_cli.proofs.ScriptLemmas.{commands_around, drives_within, each_done, each_goes, each_over, one_clean, world_of}
+use Rattle.wu_cli.specs.Telling.{CutsRefusal, DrivesCommands, DrivesSteps, LengthensBySteps, TellsAction, TellsBy}
+use Rattle.wu_cli.specs.Trying.{EndsTried, PerformsBy, refusal_line}
+use Rattle.wu_cli.proofs.PrintLemmas.{each_prints, one_prints, refused_prints}
+use Rattle.wu_cli.proofs.ActionLemmas.{all_drives, drives_within, so_far_drives, world_of}
+use Rattle.wu_cli.proofs.ScriptLemmas.{commands_both, each_done, each_goes, each_over}
+use Rattle.wu_cli.proofs.TryLemmas.{by_clean, drives_accepted, no_end, refused_as, refused_done, refused_over}
 
 module _ {S W : Type 0} {store : Ghosts S} (contents : W → Option (List ℕ)) where
   -- what an action that ended with a fault did of its commands, and what it put out of them
@@ -57,45 +61,84 @@ module _ {S W : Type 0} {store : Ghosts S} (contents : W → Option (List ℕ)) 
     (refl, one_prints contents old new out_old out_new (Look view) (Some fault) sees going clean world (over_shows old world over)),
   )
 
+  -- likewise, where it was done once
+  once_tells : (old new : Project S store) (out_old out_new : W) (action : Action) (fault : Fault) → Performs contents old new out_old out_new action (Some fault)
+      → IsSessionOpen old → HasCleanDisk (state_of new) → (world : World) → IsOver old world
+      → (answers : List Answer) × (count : ℕ) × (is_cut : Bool) × Drives world (commands_of_action action) answers (so_far count) is_cut (state_of new)
+      × TellsAction (contents out_old) (contents out_new) world action count fault
+  once_tells old new out_old out_new action fault does going clean world over =
+      let it = one_tells old new out_old out_new action fault does going clean world over in
+      (it.0, it.1.acknowledged, it.2, so_far_drives world (commands_of_action action) it.0 it.1 it.2 (state_of new) it.3, it.4)
+
+  -- where it was tried
+  tried_tells : (old new : Project S store) (out_old out_done out_new : W) (action : Action) (told : Option Fault) (fault : Fault) → Performs contents old new out_old out_done action told
+      → EndsTried contents out_done out_new told (Some fault) → IsSessionOpen old → HasCleanDisk (state_of new) → (world : World) → IsOver old world
+      → (answers : List Answer) × (count : ℕ) × (is_cut : Bool) × Drives world (commands_by Tried world action) answers (so_far count) is_cut (state_of new)
+      × TellsBy Tried (contents out_old) (contents out_new) world action count fault
+  tried_tells old new out_old out_done out_new action None fault does (none, same) going clean world over = no_end fault (sym none)
+  tried_tells old new out_old out_done out_new action (Some refused) fault does (inl (is_refused, passed)) going clean world over =
+      let shows = over_shows old world over in
+      let did = refused_done contents old new out_old out_done action refused does is_refused going clean world shows in
+      let behind = refused_over contents old new out_old out_done action refused does is_refused going clean world over in
+      let commands = commands_by Tried world action in (
+        did.0,
+        length commands,
+        false,
+        all_drives world commands did.0 (state_of new) did.1 behind.goes behind.is_project,
+        inr (record {
+          all = refl;
+          output = passed.0;
+          mid = contents out_done;
+          whole = refused_prints contents old new out_old out_done action refused does is_refused going clean world shows;
+          front = subst (λ r. AppendsFront (contents out_done) (contents out_new) (refusal_line r)) (sym (refused_as contents old new out_old out_done action refused does is_refused going clean world shows)) passed.1;
+        }),
+      )
+  tried_tells old new out_old out_done out_new action (Some other) fault does (inr (no_refusal, is, same)) going clean world over =
+      let it = one_tells old new out_old out_done action other does going clean world over in
+      let kept = drives_accepted world (commands_of_action action) it.0 it.1 it.2 (state_of new) it.3 in
+      let told = subst (λ o. TellsAction (contents out_old) (contents o) world action it.1.acknowledged fault) (sym same)
+      (subst (λ f. TellsAction (contents out_old) (contents out_done) world action it.1.acknowledged f) (one_fault other fault (sym is)) it.4) in
+      (it.0, it.1.acknowledged, kept.0, kept.1, inl told)
+
+  by_tells : (old new : Project S store) (out_old out_new : W) (mode : Mode) (action : Action) (fault : Fault) → PerformsBy contents mode old new out_old out_new action (Some fault)
+      → IsSessionOpen old → HasCleanDisk (state_of new) → (world : World) → IsOver old world
+      → (answers : List Answer) × (count : ℕ) × (is_cut : Bool) × Drives world (commands_by mode world action) answers (so_far count) is_cut (state_of new)
+      × TellsBy mode (contents out_old) (contents out_new) world action count fault
+  by_tells old new out_old out_new Once action fault does = once_tells old new out_old out_new action fault does
+  by_tells old new out_old out_new Repeated action fault does = once_tells old new out_old out_new action fault does
+  by_tells old new out_old out_new Tried action fault tries = tried_tells old new out_old tries.out_done out_new action tries.told fault tries.does tries.ends
+
   drives_steps : (old new : Project S store) (out_old out_new : W) (steps : List Step) (end : Option LineFault) → PerformsSteps contents old new out_old out_new steps end
       → IsSessionOpen old → HasCleanDisk (state_of new) → (world : World) → IsOver old world
       → DrivesCommands world steps end (contents out_old) (contents out_new) (state_of new)
   drives_steps old new out_old out_new steps None each going clean world over =
       let done = each_done contents old new out_old out_new steps each going clean world (over_shows old world over) in
       let behind = each_over contents old new out_old out_new steps each going clean world over in
-      let commands = commands_of_steps steps in
-      let whole : take (length commands) commands ≡ commands = take-length commands in
+      let commands = commands_of_steps world steps in
       record {
         count = length commands;
         answers = done.0;
         is_cut = false;
-        drives = record {
-          within = omega arith;
-          answered = subst (λ cs. AnswerAll world cs done.0) (sym whole) done.1;
-          end = λ fault told. absurd (cc);
-          goes = λ still. subst (λ cs. GoesOn (state_of new) (world_of world cs)) (sym whole) behind.goes;
-          ended = λ ended. absurd (cc);
-          project = subst (λ cs. IsProject (world_of world cs)) (sym whole) behind.is_project;
-          cut_project = λ ended cut there. absurd (cc);
-        };
+        drives = all_drives world commands done.0 (state_of new) done.1 behind.goes behind.is_project;
         told = each_prints contents old new out_old out_new steps each going clean world (over_shows old world over);
         whole = λ none. refl;
       }
   drives_steps old new out_old out_new steps (Some end) until going clean world over =
-      let last_clean = one_clean contents until.mid new until.out_mid out_new until.last.action (Some end.fault) until.ends in
+      let last_clean = by_clean contents until.mid new until.out_mid out_new until.last.mode until.last.action (Some end.fault) until.ends in
       let before : HasCleanDisk (state_of until.mid) = omega (arith, last_clean, clean) in
       let done = each_done contents old until.mid out_old until.out_mid until.before until.each going before world (over_shows old world over) in
       let here = each_over contents old until.mid out_old until.out_mid until.before until.each going before world over in
       let still = each_goes contents old until.mid out_old until.out_mid until.before until.each going in
-      let firsts = commands_of_steps until.before in
-      let last = one_tells until.mid new until.out_mid out_new until.last.action end.fault until.ends still clean (world_of world firsts) here in
-      let all = ap commands_of_steps until.order ∙ commands_around until.before until.last until.after in
+      let firsts = commands_of_steps world until.before in
+      let behind = world_of world firsts in
+      let last = by_tells until.mid new until.out_mid out_new until.last.mode until.last.action end.fault until.ends still clean behind here in
+      let all = ap (λ ss. commands_of_steps world ss) until.order ∙ commands_both world until.before (until.last ∷ until.after) in
       record {
-        count = length firsts + last.1.acknowledged;
+        count = length firsts + last.1;
         answers = done.0 ++ last.0;
         is_cut = last.2;
-        drives = subst (λ cs. Drives world cs (done.0 ++ last.0) (so_far (length firsts + last.1.acknowledged)) last.2 (state_of new)) (sym all)
-            (drives_within world firsts (commands_of_action until.last.action) (commands_of_steps until.after) done.0 last.0 last.1 last.2 (state_of new) done.1 last.3);
+        drives = subst (λ cs. Drives world cs (done.0 ++ last.0) (so_far (length firsts + last.1)) last.2 (state_of new)) (sym all)
+            (drives_within world firsts (commands_by until.last.mode behind until.last.action) (commands_of_steps (world_behind behind until.last) until.after) done.0 last.0 (so_far last.1) last.2 (state_of new) done.1 last.3);
         told = record {
           front = until.before;
           last = until.last;
@@ -103,7 +146,7 @@ module _ {S W : Type 0} {store : Ghosts S} (contents : W → Option (List ℕ)) 
           order = until.order;
           mid = contents until.out_mid;
           whole = each_prints contents old until.mid out_old until.out_mid until.before until.each going before world (over_shows old world over);
-          done = last.1.acknowledged;
+          done = last.1;
           counted = refl;
           part = last.4;
         };
@@ -118,4 +161,4 @@ module _ {S W : Type 0} {store : Ghosts S} (contents : W → Option (List ℕ)) 
   lengthens_script old new out_old out_new steps end it going clean start life over =
       let world = world_of_life start life in
       let driven = drives_script old new out_old out_new steps end it going clean world over in
-      (driven, lengthens start life (commands_of_steps (unrolled world steps)) driven.answers (so_far driven.count) driven.is_cut (state_of new) driven.drives)
+      (driven, lengthens start life (commands_of_steps world (unrolled world steps)) driven.answers (so_far driven.count) driven.is_cut (state_of new) driven.drives)

@@ -25,7 +25,8 @@ use Rattle.wu_cli.specs.declared.trouble.Trouble.{Trouble}
 use Rattle.wu_cli.specs.declared.work.Work.{Work}
 use Rattle.wu_cli.specs.declared.work.Work.TheVariants as work
 use Rattle.wu_cli.proofs.PrintLemmas.{one_prints, script_prints}
-use Rattle.wu_cli.proofs.ScriptLemmas.{one_clean, script_clean}
+use Rattle.wu_cli.proofs.ActionLemmas.{one_clean}
+use Rattle.wu_cli.proofs.ScriptLemmas.{script_clean}
 use Rattle.wu_cli.proofs.TellingLemmas.{drives_script}
 
 -- what is refused in one way is refused with the same

@@ -68,6 +68,7 @@ refusal_text (refusal.Text cause) = cause_text cause
 refusal_text (refusal.Words usage) = usage_text usage
 refusal_text (refusal.Outsider outsider) = outsider_line outsider
 refusal_text refusal.Repeat = codes "only a pass can be repeated" ++ line_end
+refusal_text refusal.Try = codes "only a command or a view can be tried" ++ line_end
 refusal_text (refusal.Fault fault) = fault_line fault
 
 -- The text of the first line that cannot be run, with the reason.

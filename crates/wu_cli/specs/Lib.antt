@@ -8,6 +8,7 @@ pub mod Exports
 pub mod Linting
 pub mod Outputs
 pub mod Performing
+pub mod Trying
 pub mod Repeating
 pub mod Scripting
 pub mod Troubles

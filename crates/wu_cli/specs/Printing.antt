@@ -1,5 +1,5 @@
 -- What is printed over a world: the texts of the machine's answers and of views, in the order of the actions.
-use Rattle.std.specs.Prelude.{ℕ, List, [], ◌∷◌, ◌++◌, Option, Result, Ok, Err}
+use Rattle.std.specs.Prelude.{ℕ, List, [], ◌∷◌, ◌++◌, Option, Some, None, Result, Ok, Err}
 use Rattle.sqlite.specs.Held.{Held, state}
 use Rattle.sqlite.specs.State.{HasCleanDisk}
 use Rattle.sqlite.specs.Store.{Ghosts}
@@ -10,6 +10,7 @@ use Rattle.wu_machine.specs.Commands.{request_of}
 use Rattle.wu_machine.specs.Machine.{reply, step}
 use Rattle.wu_machine.specs.Requests.{Reply}
 use Rattle.wu_machine.specs.Sound.{IsProject}
+use Rattle.wu_passes.specs.Adopting.{older_than_present}
 use Rattle.wu_passes.specs.declared.project.Project.{Project}
 use Rattle.wu_passes.specs.Projects.{IsSessionOpen, ShowsProject, state_of}
 use Rattle.wu_report.specs.Texts.{view_text}
@@ -17,9 +18,12 @@ use Rattle.wu_report.specs.Writing.{WritesTo}
 use Rattle.wu_drive.specs.Texts.{reply_text}
 use Rattle.wu_arguments.specs.declared.action.Action.{Action}
 use Rattle.wu_arguments.specs.declared.action.Action.TheVariants.{Commands, Look}
+use Rattle.wu_arguments.specs.declared.script.Mode.{Mode}
+use Rattle.wu_arguments.specs.declared.script.Mode.TheVariants.{Once, Repeated, Tried}
 use Rattle.wu_arguments.specs.declared.step.LineFault.{LineFault}
 use Rattle.wu_arguments.specs.declared.step.Step.{Step}
 use Rattle.wu_cli.specs.Repeating.{unrolled, world_behind}
+use Rattle.wu_cli.specs.Trying.{accepted, refusal_line, refusal_of}
 use Rattle.wu_cli.specs.Working.{BeginsFrom, line_outcome, script_outcome}
 use Rattle.wu_cli.specs.declared.trouble.Trouble.{Trouble}
 use Rattle.wu_cli.specs.declared.work.Work.{Work}
@@ -43,10 +47,26 @@ abbrev pub printed_action : World → Action → List ℕ
 printed_action world (Commands commands) = printed_replies world commands
 printed_action world (Look view) = view_text world view
 
+-- What is shown of a view: nothing over an older version.
+abbrev pub shown_text : Option ℕ → List ℕ → List ℕ
+shown_text None text = text
+shown_text (Some version) text = []
+
+-- What an action prints before its refusal, if it is refused: the answers to the commands before that.
+abbrev pub printed_accepted : World → Action → List ℕ
+printed_accepted world (Commands commands) = printed_replies world (accepted world commands)
+printed_accepted world (Look view) = shown_text (older_than_present world.version) (view_text world view)
+
+-- What an action prints that is done in this way: of a tried one, the line of its refusal too.
+abbrev pub printed_by : Mode → World → Action → List ℕ
+printed_by Once world action = printed_action world action
+printed_by Repeated world action = printed_action world action
+printed_by Tried world action = printed_accepted world action ++ refusal_line (refusal_of world action)
+
 -- What steps print, each over the world that the steps before it left.
 abbrev pub printed_steps : World → List Step → List ℕ
 printed_steps world [] = []
-printed_steps world (step ∷ more) = printed_action world step.action ++ printed_steps (world_behind world step.action) more
+printed_steps world (step ∷ more) = printed_by step.mode world step.action ++ printed_steps (world_behind world step) more
 
 -- What a line or a script prints.
 abbrev pub printed_work : World → Work → List ℕ

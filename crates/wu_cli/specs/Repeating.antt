@@ -1,5 +1,5 @@
 -- How often the steps of a script are done: a repeated pass, until it handles less than its limit.
-use Rattle.std.specs.Prelude.{◌≡◌, ◌≤◌, ℕ, zero, suc, Bool, true, false, List, [], ◌∷◌, ◌++◌, ◌==◌, flat_map, if◌then◌else◌, map, replicate, Option, Some, None}
+use Rattle.std.specs.Prelude.{◌≡◌, ◌≢◌, ◌≤◌, ℕ, zero, suc, Bool, true, false, List, [], ◌∷◌, ◌++◌, ◌==◌, if◌then◌else◌, map, replicate, Option, Some, None}
 use Rattle.wu_core.specs.World.{World}
 use Rattle.wu_drive.specs.Counting.{last_handled}
 use Rattle.wu_machine.specs.declared.command.Command.{Command}
@@ -8,7 +8,10 @@ use Rattle.wu_machine.specs.Machine.{fold_steps}
 use Rattle.wu_machine.specs.Requests.{AskPass, Request}
 use Rattle.wu_arguments.specs.declared.action.Action.{Action}
 use Rattle.wu_arguments.specs.declared.action.Action.TheVariants.{Commands, Look}
+use Rattle.wu_arguments.specs.declared.script.Mode.{Mode}
+use Rattle.wu_arguments.specs.declared.script.Mode.TheVariants.{Once, Repeated, Tried}
 use Rattle.wu_arguments.specs.declared.step.Step.{Step}
+use Rattle.wu_cli.specs.Trying.{accepted}
 use Rattle.wu_cli.specs.declared.repeating.TheConstants.{MOST_ROUNDS}
 
 -- ---- the commands of a script
@@ -17,16 +20,27 @@ abbrev pub commands_of_action : Action → List Command
 commands_of_action (Commands commands) = commands
 commands_of_action (Look view) = []
 
--- The commands of steps, in order; a view has none.
-abbrev pub commands_of_steps : List Step → List Command
-commands_of_steps steps = flat_map (λ step. commands_of_action step.action) steps
+-- The commands of an action that is done in this way: of a tried one, those that the machine accepts.
+abbrev pub commands_by : Mode → World → Action → List Command
+commands_by Once world action = commands_of_action action
+commands_by Repeated world action = commands_of_action action
+commands_by Tried world action = accepted world (commands_of_action action)
 
--- The machine's world after an action, and after steps.
-abbrev pub world_behind : World → Action → World
-world_behind world action = fold_steps world (map request_of (commands_of_action action))
+abbrev pub commands_of_step : World → Step → List Command
+commands_of_step world step = commands_by step.mode world step.action
 
+-- The machine's world after a step.
+abbrev pub world_behind : World → Step → World
+world_behind world step = fold_steps world (map request_of (commands_of_step world step))
+
+-- The commands of steps, in order, each over the world that the steps before it left; a view has none.
+abbrev pub commands_of_steps : World → List Step → List Command
+commands_of_steps world [] = []
+commands_of_steps world (step ∷ steps) = commands_of_step world step ++ commands_of_steps (world_behind world step) steps
+
+-- The machine's world after steps.
 abbrev pub world_behind_steps : World → List Step → World
-world_behind_steps world steps = fold_steps world (map request_of (commands_of_steps steps))
+world_behind_steps world steps = fold_steps world (map request_of (commands_of_steps world steps))
 
 -- ---- whether there may be more to do
 
@@ -54,18 +68,18 @@ is_full world (Look view) = false
 -- ---- how often
 
 -- How often a step may be done: a repeated one at most a million times, any other once.
-abbrev pub most_rounds : Bool → ℕ
-most_rounds true = MOST_ROUNDS
-most_rounds false = 1
+abbrev pub most_rounds : Mode → ℕ
+most_rounds Once = 1
+most_rounds Repeated = MOST_ROUNDS
+most_rounds Tried = 1
 
--- How often an action is done over a world: once, and again after each time that it handled its limit, up to this
--- number.
-abbrev pub rounds_of : World → Action → ℕ → ℕ
-rounds_of world action zero = zero
-rounds_of world action (suc most) = suc (if is_full world action then rounds_of (world_behind world action) action most else zero)
+-- How often a step is done over a world: once, and again after each time that it handled its limit, up to this number.
+abbrev pub rounds_of : World → Step → ℕ → ℕ
+rounds_of world step zero = zero
+rounds_of world step (suc most) = suc (if is_full world step.action then rounds_of (world_behind world step) step most else zero)
 
 abbrev pub rounds : World → Step → ℕ
-rounds world step = rounds_of world step.action (most_rounds step.repeats)
+rounds world step = rounds_of world step (most_rounds step.mode)
 
 -- The steps of a script as they are done over a world, each as often as it is done there.
 abbrev pub unrolled : World → List Step → List Step
@@ -77,4 +91,4 @@ unrolled world (step ∷ steps) =
 abbrev pub AreRepeated : List Step → List Step → Type 0
 AreRepeated [] ran = ran ≡ []
 AreRepeated (step ∷ steps) ran =
-    (times : ℕ) × (more : List Step) × (ran ≡ replicate times step ++ more) × (1 ≤ times) × (step.repeats ≡ false → times ≡ 1) × AreRepeated steps more
+    (times : ℕ) × (more : List Step) × (ran ≡ replicate times step ++ more) × (1 ≤ times) × (step.mode ≢ Repeated → times ≡ 1) × AreRepeated steps more

@@ -1,5 +1,5 @@
 -- What is done for the steps of a script over a project.
-use Rattle.std.specs.Prelude.{◌≡◌, ◌≤◌, ℕ, Bool, false, List, [], ◌∷◌, ◌++◌, replicate, Option, Some, None}
+use Rattle.std.specs.Prelude.{◌≡◌, ◌≢◌, ◌≤◌, ℕ, Bool, List, [], ◌∷◌, ◌++◌, replicate, Option, Some, None}
 use Rattle.sqlite.specs.State.{HasCleanDisk}
 use Rattle.sqlite_trees.specs.declared.store.Store.{Ghosts}
 use Rattle.wu_core.specs.World.{World}
@@ -7,20 +7,22 @@ use Rattle.wu_core.specs.declared.fault.Fault.{Fault}
 use Rattle.wu_drive.specs.declared.runs.Run.{Run}
 use Rattle.wu_passes.specs.declared.project.Project.{Project}
 use Rattle.wu_passes.specs.Projects.{IsSessionOpen, ShowsProject, state_of}
-use Rattle.wu_cli.specs.Performing.{Performs}
+use Rattle.wu_cli.specs.Trying.{PerformsBy}
 use Rattle.wu_cli.specs.Repeating.{AreRepeated, is_full, rounds, unrolled}
 use Rattle.wu_arguments.specs.declared.action.Action.{Action}
+use Rattle.wu_arguments.specs.declared.script.Mode.TheVariants.{Repeated}
 use Rattle.wu_arguments.specs.declared.step.LineFault.{LineFault}
 use Rattle.wu_arguments.specs.declared.step.Step.{Step}
 
 -- ---- step by step
 
 module _ {S W : Type 0} {store : Ghosts S} (contents : W → Option (List ℕ)) where
-  -- Each step is done in order, over what the step before it left, and none ends with a fault.
+  -- Each step is done in order, over what the step before it left, and none ends with a fault. A tried one that is
+  -- refused ends without one.
   unfoldable pub PerformsEach : Project S store → Project S store → W → W → List Step → Type 0
   PerformsEach old new out_old out_new [] = (new ≡ old) × (out_new ≡ out_old)
   PerformsEach old new out_old out_new (step ∷ more) =
-      (mid : Project S store) × (out_mid : W) × Performs contents old mid out_old out_mid step.action None × PerformsEach mid new out_mid out_new more
+      (mid : Project S store) × (out_mid : W) × PerformsBy contents step.mode old mid out_old out_mid step.action None × PerformsEach mid new out_mid out_new more
 
   -- The steps before this one are done, this one ends with this fault, and those after it are not begun.
   pub record PerformsUntil (old new : Project S store) (out_old out_new : W) (steps : List Step) (end : LineFault) : Type 0 where
@@ -32,7 +34,7 @@ module _ {S W : Type 0} {store : Ghosts S} (contents : W → Option (List ℕ)) 
     pub mid : Project S store
     pub out_mid : W
     pub each : PerformsEach old mid out_old out_mid before
-    pub ends : Performs contents mid new out_mid out_new last.action (Some end.fault)
+    pub ends : PerformsBy contents last.mode mid new out_mid out_new last.action (Some end.fault)
 
   -- Without a fault all steps are done, each once; with a fault, those before the one that ended so.
   abbrev pub PerformsSteps : Project S store → Project S store → W → W → List Step → Option LineFault → Type 0
@@ -47,7 +49,7 @@ module _ {S W : Type 0} {store : Ghosts S} (contents : W → Option (List ℕ)) 
   pub record PerformsStep (old new : Project S store) (out_old out_new : W) (step : Step) (end : Option LineFault) : Type 0 where
     pub times : ℕ
     pub some : 1 ≤ times
-    pub once : step.repeats ≡ false → times ≡ 1
+    pub once : step.mode ≢ Repeated → times ≡ 1
     pub does : PerformsSteps contents old new out_old out_new (replicate times step) end
     pub over :
         IsSessionOpen old → HasCleanDisk (state_of new) → (world : World) → ShowsProject old world

@@ -1,10 +1,11 @@
 -- How many commands of a script were done over a world, and what it printed of them.
-use Rattle.std.specs.Prelude.{◌≡◌, ℕ, ◌+◌, Bool, List, ◌∷◌, ◌++◌, length, take, Option, Some, None}
+use Rattle.std.specs.Prelude.{◌≡◌, ◌⊎◌, ℕ, ◌+◌, Bool, List, ◌∷◌, ◌++◌, length, take, Option, Some, None}
 use Rattle.std.specs.Io.KnownBytes.{Appends}
 use Rattle.sqlite.specs.State.{State, HasCleanDisk}
 use Rattle.sqlite_trees.specs.declared.store.Store.{Ghosts}
 use Rattle.wu_core.specs.World.{World}
 use Rattle.wu_core.specs.declared.fault.Fault.{Fault}
+use Rattle.wu_core.specs.declared.fault.Fault.TheVariants.{Output}
 use Rattle.wu_drive.specs.Driving.{AnswerAll, Drives, Lengthens, session_of}
 use Rattle.wu_drive.specs.Writing.{WritesAnswers}
 use Rattle.wu_machine.specs.declared.command.Answer.{Answer}
@@ -15,10 +16,13 @@ use Rattle.wu_report.specs.Texts.{view_text}
 use Rattle.wu_report.specs.Writing.{AppendsFront}
 use Rattle.wu_arguments.specs.declared.action.Action.{Action}
 use Rattle.wu_arguments.specs.declared.action.Action.TheVariants.{Commands, Look}
+use Rattle.wu_arguments.specs.declared.script.Mode.{Mode}
+use Rattle.wu_arguments.specs.declared.script.Mode.TheVariants.{Once, Repeated, Tried}
 use Rattle.wu_arguments.specs.declared.step.LineFault.{LineFault}
 use Rattle.wu_arguments.specs.declared.step.Step.{Step}
-use Rattle.wu_cli.specs.Printing.{printed_steps}
-use Rattle.wu_cli.specs.Repeating.{commands_of_steps, unrolled, world_behind_steps}
+use Rattle.wu_cli.specs.Printing.{printed_accepted, printed_steps}
+use Rattle.wu_cli.specs.Repeating.{commands_of_action, commands_of_steps, unrolled, world_behind_steps}
+use Rattle.wu_cli.specs.Trying.{accepted, refusal_line, refusal_of}
 use Rattle.wu_cli.specs.Scripting.{so_far}
 
 -- What an action printed that ended with a fault. Of commands, the texts of the answers to those that were done, the
@@ -28,6 +32,22 @@ TellsAction before after world (Commands commands) count fault =
     (answers : List Answer) × AnswerAll world (take count commands) answers
     × WritesAnswers before after answers (record { acknowledged = count; end = Some fault })
 TellsAction before after world (Look view) count fault = (count ≡ 0) × AppendsFront before after (view_text world view)
+
+-- So many commands of a tried action were done, all that the machine accepts, and their answers went out. Of the line
+-- of its refusal only a prefix did.
+pub record CutsRefusal (before after : Option (List ℕ)) (world : World) (action : Action) (count : ℕ) (fault : Fault) : Type 0 where
+  pub all : count ≡ length (accepted world (commands_of_action action))
+  pub output : fault ≡ Output
+  pub mid : Option (List ℕ)
+  pub whole : Appends before mid (printed_accepted world action)
+  pub front : AppendsFront mid after (refusal_line (refusal_of world action))
+
+-- What an action printed that was done in this way and ended with a fault.
+abbrev pub TellsBy : Mode → Option (List ℕ) → Option (List ℕ) → World → Action → ℕ → Fault → Type 0
+TellsBy Once before after world action count fault = TellsAction before after world action count fault
+TellsBy Repeated before after world action count fault = TellsAction before after world action count fault
+TellsBy Tried before after world action count fault =
+    TellsAction before after world action count fault ⊎ CutsRefusal before after world action count fault
 
 -- So many commands of the steps were done. Each step before the one that failed printed all its text. That one printed
 -- what reports its done commands.
@@ -39,8 +59,8 @@ pub record TellsUntil (before after : Option (List ℕ)) (world : World) (steps 
   pub mid : Option (List ℕ)
   pub whole : Appends before mid (printed_steps world front)
   pub done : ℕ
-  pub counted : count ≡ length (commands_of_steps front) + done
-  pub part : TellsAction mid after (world_behind_steps world front) last.action done fault
+  pub counted : count ≡ length (commands_of_steps world front) + done
+  pub part : TellsBy last.mode mid after (world_behind_steps world front) last.action done fault
 
 -- Without a fault all steps printed their whole text; with one, as far as they were done.
 abbrev pub TellsSteps : Option (List ℕ) → Option (List ℕ) → World → List Step → ℕ → Option LineFault → Type 0
@@ -54,9 +74,9 @@ pub record DrivesCommands (world : World) (steps : List Step) (end : Option Line
   pub count : ℕ
   pub answers : List Answer
   pub is_cut : Bool
-  pub drives : Drives world (commands_of_steps steps) answers (so_far count) is_cut new
+  pub drives : Drives world (commands_of_steps world steps) answers (so_far count) is_cut new
   pub told : TellsSteps before after world steps count end
-  pub whole : end ≡ None → count ≡ length (commands_of_steps steps)
+  pub whole : end ≡ None → count ≡ length (commands_of_steps world steps)
 
 module _ {S W : Type 0} {store : Ghosts S} (contents : W → Option (List ℕ)) where
   -- On a clean disk, a script does a prefix of its commands over each world over which its session goes on.
@@ -71,4 +91,4 @@ module _ {S W : Type 0} {store : Ghosts S} (contents : W → Option (List ℕ)) 
   LengthensBySteps old new out_old out_new steps end =
       IsSessionOpen old → HasCleanDisk (state_of new) → (start : World) (life : List Lived) → IsOver old (world_of_life start life)
       → (it : DrivesCommands (world_of_life start life) (unrolled (world_of_life start life) steps) end (contents out_old) (contents out_new) (state_of new))
-      × Lengthens start life (session_of (commands_of_steps (unrolled (world_of_life start life) steps)) (so_far it.count) it.is_cut) (state_of new)
+      × Lengthens start life (session_of (commands_of_steps (world_of_life start life) (unrolled (world_of_life start life) steps)) (so_far it.count) it.is_cut) (state_of new)

@@ -92,7 +92,7 @@ PerformsWork contents old new out_old out_new (work.Script steps) done =
 -- is done.
 abbrev pub commands_of_work : World → Work → List Command
 commands_of_work world (work.Line action) = commands_of_action action
-commands_of_work world (work.Script steps) = commands_of_steps (unrolled world steps)
+commands_of_work world (work.Script steps) = commands_of_steps world (unrolled world steps)
 
 -- So many commands were done, each with the machine's reply, and the tables represent the world after them. If the
 -- session ended within the next command, a crash may also leave the world after that one. With success all were done.

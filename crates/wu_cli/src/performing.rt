@@ -40,8 +40,9 @@ pub fn perform<S: Alter, W: Write>(
 /// Does what the steps of a script ask for, in order, up to the first fault. Returns the status of the program, and the
 /// fault that ended it with its line.
 ///
-/// A repeated step is done until its pass handles less than its limit, at most a million times. So over a world a
-/// script is the list of commands that the machine's answers make of it.
+/// A repeated step is done until its pass handles less than its limit, at most a million times. Of a tried one the
+/// commands are done up to the first that the machine refuses, and then the next step. So over a world a script is the
+/// list of commands that the machine's answers make of it.
 pub fn perform_script<S: Alter, W: Write>(
     alloc: Global,
     project: &mut Project<S>,
@@ -50,14 +51,15 @@ pub fn perform_script<S: Alter, W: Write>(
 ) -> (u8, Option<LineFault>)
     // The steps are done in order, each over what the one before left, up to the first fault. A
     // step is done once; a repeated pass again after each answer that is its limit, and after no
-    // other, at most a million times.
+    // other, at most a million times. A refusal of a tried step is passed over.
     ensures does { PerformsScript W.contents project.old project.new out.old out.new
         steps.now result.1 }
     // The status is 0 without a fault, and else that of the fault.
     ensures status { result.0 ≡ status_of_line result.1 }
     // A prefix of the script's commands is done, each with the machine's reply; without a fault
-    // all. Where the session ended within a command, a crash may leave that one done. What went out
-    // reports just as many commands as were done.
+    // all. A tried command that the machine refuses is none of them. Where the session ended within
+    // a command, a crash may leave that one done. What went out reports just as many commands as
+    // were done.
     ensures drives { DrivesSteps W.contents project.old project.new out.old out.new
         steps.now result.1 }
     // Where a crash could leave one world alone, after the script each world that it may leave is
@@ -65,7 +67,7 @@ pub fn perform_script<S: Alter, W: Write>(
     ensures lives { LengthensBySteps W.contents project.old project.new out.old out.new
         steps.now result.1 }
     // Over a world exactly what the steps print goes out, in order, and with a fault a prefix of
-    // it.
+    // it. The line of a refusal that was passed over stands in the place of the answer.
     ensures prints { PrintsSteps W.contents project.old project.new out.old out.new
         steps.now result.1 }
 {

@@ -4,13 +4,15 @@ ghost use Rattle.std.specs.Prelude.{◌≡◌};
 ghost use Rattle.wu_cli.specs.Performing.{Performs};
 ghost use Rattle.wu_cli.specs.Repeating.{fill_limit, is_at_limit, limit_of, most_rounds};
 ghost use Rattle.wu_cli.specs.Scripting.{PerformsStep, TellsFull};
+ghost use Rattle.wu_cli.specs.Trying.{is_refusal, PassesOver, PerformsBy, Tries};
 ghost use Rattle.wu_machine.specs.Commands.{request_of};
 ghost use Rattle.wu_arguments.specs.Statuses.{status_of_line};
 
+use crate::texts::write_fault;
 use sqlite::Alter;
 use std::alloc::Global;
 use std::io::Write;
-use wu_arguments::{Action, LineFault, Step, fault_status};
+use wu_arguments::{Action, LineFault, Mode, Step, fault_status};
 use wu_core::Fault;
 use wu_drive::{Command, Project, drive_and_count, show};
 
@@ -76,18 +78,87 @@ pub fn act<S: Alter, W: Write>(
     }
 }
 
+/// Returns whether the machine may refuse a command with this fault. Then the session goes on, and the project is as it
+/// was.
+fn is_refusal(fault: Fault) -> bool
+    ensures { result ≡ is_refusal fault }
+{
+    match fault {
+        Fault::NotAProject | Fault::Memory | Fault::Broken | Fault::Ended | Fault::Output => false,
+        _ => true,
+    }
+}
+
+/// Writes the line of a refusal, and flushes. Returns the fault of the output.
+fn pass_over<W: Write>(out: &mut W, refused: Fault) -> Option<Fault>
+    ensures { PassesOver W.contents out.old out.new refused result }
+{
+    if write_fault(&refused, out) {
+        None
+    } else {
+        Some(Fault::Output)
+    }
+}
+
+/// Does an action as `act`, and passes over its refusal: the line of the refusal goes out.
+fn attempt<S: Alter, W: Write>(
+    alloc: Global,
+    project: &mut Project<S>,
+    action: &Action,
+    out: &mut W,
+) -> (Option<Fault>, bool)
+    ensures does { Tries W.contents project.old project.new out.old out.new action.now result.0 }
+    ensures full { TellsFull project.old project.new action.now result.0 result.1 }
+{
+    let (end, is_full) = act(alloc, project, action, out);
+    match end {
+        Some(fault) => {
+            if is_refusal(fault) {
+                (pass_over(out, fault), false)
+            } else {
+                (Some(fault), is_full)
+            }
+        }
+        None => (None, is_full),
+    }
+}
+
+/// Does an action in this way. Returns the fault that ended it, and whether there may be more to do, as `act`.
+fn act_by<S: Alter, W: Write>(
+    alloc: Global,
+    project: &mut Project<S>,
+    mode: Mode,
+    action: &Action,
+    out: &mut W,
+) -> (Option<Fault>, bool)
+    ensures does { PerformsBy W.contents mode project.old project.new out.old out.new
+        action.now result.0 }
+    ensures full { TellsFull project.old project.new action.now result.0 result.1 }
+{
+    match mode {
+        Mode::Once => act(alloc, project, action, out),
+        Mode::Repeated => act(alloc, project, action, out),
+        Mode::Tried => attempt(alloc, project, action, out),
+    }
+}
+
 /// How often a repeated step is done at most.
 pub const MOST_ROUNDS: u32 = 1_000_000;
 
 /// Returns how often a step is done at most: a million times if it is repeated, and else once.
-fn most_rounds(repeats: bool) -> u32
-    ensures { result ≡ most_rounds repeats }
+fn most_rounds(mode: Mode) -> u32
+    ensures { result ≡ most_rounds mode }
 {
-    if repeats { MOST_ROUNDS } else { 1 }
+    match mode {
+        Mode::Once => 1,
+        Mode::Repeated => MOST_ROUNDS,
+        Mode::Tried => 1,
+    }
 }
 
 /// Does what a step of a script asks for. A repeated step is done again until its pass handles less than its limit, at
-/// most a million times. Returns the status of the program, and the fault that ended the step with its line.
+/// most a million times. The refusal of a tried one is passed over, and its line goes out. Returns the status of the
+/// program, and the fault that ended the step with its line.
 pub fn perform_step<S: Alter, W: Write>(
     alloc: Global,
     project: &mut Project<S>,
@@ -95,14 +166,14 @@ pub fn perform_step<S: Alter, W: Write>(
     out: &mut W,
 ) -> (u8, Option<LineFault>)
     // A step is done once; a repeated pass again after each answer that is its limit, and after no
-    // other, at most a million times.
+    // other, at most a million times. A refusal of a tried step is passed over.
     ensures does { PerformsStep W.contents project.old project.new out.old out.new
         step.now result.1 }
     // The status is 0 without a fault, and else that of the fault.
     ensures status { result.0 ≡ status_of_line result.1 }
 {
-    'each: for _ in 0..most_rounds(step.repeats) {
-        let (end, is_full) = act(alloc, project, &step.action, out);
+    'each: for _ in 0..most_rounds(step.mode) {
+        let (end, is_full) = act_by(alloc, project, step.mode, &step.action, out);
         match end {
             Some(fault) => {
                 let number = step.number;

@@ -209,6 +209,7 @@ pub(crate) fn text_of_refusal<W: Write>(out: &mut W, why: &Refusal) -> Result<()
         Refusal::Words(usage) => text_of_usage(out, usage),
         Refusal::Outsider(outsider) => write_text(out, outsider_line(outsider)),
         Refusal::Repeat => write_line(out, "only a pass can be repeated"),
+        Refusal::Try => write_line(out, "only a command or a view can be tried"),
         Refusal::Fault(fault) => line_of_fault(out, *fault),
     }
 }

@@ -1,6 +1,6 @@
 //! Laws of the texts of answers.
 
-ghost use Rattle.wu_drive.specs.Marks.{AnswersHaveValidNames, HasUnmarkedAnswer, NoAnswerLineIsMarked};
+ghost use Rattle.wu_drive.specs.Marks.{AnswersHaveValidNames, HasUnmarkedAnswer, NoAnswerLineIsMarked, NoFaultLineIsMarked};
 ghost use Rattle.wu_machine.specs.Commands.{request_of};
 
 use wu_machine::Command;
@@ -23,3 +23,9 @@ pub fn no_answer_to_a_command_is_marked(command: &Command)
     has_values(command);
     no_answer_line_is_marked();
 }
+
+/// Proves that no line of a fault begins with `=`. In a session such a line goes out for a refusal that is passed over.
+pub fn no_fault_line_is_marked()
+    // No line of the text of a fault, with its line end, begins with `=`.
+    ensures { NoFaultLineIsMarked }
+{}

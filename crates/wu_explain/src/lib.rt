@@ -13,7 +13,7 @@ mod topics;
 mod views;
 mod words;
 
-use faults::named_fault_text;
+use faults::{named_fault_text, printed_fault_text};
 use files::file_text;
 use lowered::{MOST_BYTES, lowered};
 use statuses::status_text;
@@ -63,7 +63,7 @@ fn text_of_words<'a>(first: &str, second: &str) -> Option<&'a str>
         "view" => view_text(second),
         "file" => file_text(second),
         "status" => status_text(second),
-        _ => None,
+        _ => printed_fault_text(first, second),
     }
 }
 

@@ -151,6 +151,9 @@ commands run in one opening up to the first fault; the lines before it are done.
 Behind the word repeat a pass is run until it answers less than its limit, each time
 as a command of its own, and at most a million times:
   repeat transition --now 2026-03-01T12:00:00Z --limit 1000
+Behind the word try a command, a cycle or a view is run, and where it is refused with
+F1 to F12 that fault is printed in place of its answer, and the script goes on:
+  try cancel --workunit job_7
 ",
         ),
         "checks" => Some(
@@ -166,9 +169,10 @@ The order is: tables, their rows, rows that do not agree, the queue, and last th
 names that an upgrade gives. If something has such a name, the project is sound,
 and only its upgrade is refused: set back a version that was lowered by hand, or
 rename what has the name.
-A file that is no database that this program reads may be one with a trigger, with
-a view or with a row that refers to none. sqlite3 finds them by
-  SELECT name, type FROM sqlite_schema WHERE type IN ('trigger', 'view')
+A table that has somebody's trigger is told as missing, or its file as no database
+that this program reads. So is a file with a row that refers to none. sqlite3 finds
+both by
+  SELECT name, tbl_name FROM sqlite_schema WHERE type = 'trigger'
   PRAGMA foreign_key_check
 ",
         ),

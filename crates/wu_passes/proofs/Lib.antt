@@ -3,3 +3,4 @@ pub mod AdoptingLemmas
 pub mod WalkLemmas
 pub mod SessionLemmas
 pub mod UpgradeLemmas
+pub mod PlanningLemmas

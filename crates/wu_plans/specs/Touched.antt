@@ -12,12 +12,31 @@ use Rattle.wu_feed.specs.declared.reports.ReportRow.{ReportRow}
 use Rattle.wu_feed.specs.declared.sends.SendRow.{SendRow}
 use Rattle.wu_rules.specs.Sending.{send_verdict_in, sent_in}
 use Rattle.wu_rules.specs.Verdicts.{send_verdict_code}
+use Rattle.wu_core.specs.declared.import.ImportKind.{ImportKind}
 use Rattle.wu_machine.specs.FileRows.{Rule, after_rows, left_by, report_rule, row_verdicts}
+use Rattle.wu_machine.specs.Imports.{Given, imported, newly_imported, rows_read}
+use Rattle.wu_machine.specs.Machine.{CameBefore, done, IsUpToDate, MakesNothing}
+use Rattle.wu_machine.specs.Requests.{Request}
 use Rattle.wu_machine.specs.Worlds.{workunit_named}
 use Rattle.wu_store.specs.StandsFor.{KnowsClasses}
 use Rattle.wu_store.specs.declared.changes.Change.{Change}
 use Rattle.wu_store.specs.declared.changes.Change.TheVariants.{Replace}
 use Rattle.wu_plans.specs.declared.touched.Touch.{Touch}
+
+-- ---- a file of rows
+
+-- This is asked of the machine by importing this file of rows. A new one is read as these rows, each of which has the
+-- verdict of the rule; and only one that came before makes nothing.
+pub record IsImportOf {Row : Type 0} (world : World) (request : Request) (given : Given) (rows : Result (List Row) Fault) (rule : Rule Row) : Type 0 where
+  pub asked : IsUpToDate world → done world request ≡ imported world given
+  pub read : newly_imported world given given.kind ≡ rows_read rule given world rows
+  pub before : MakesNothing world request → CameBefore world given
+
+-- A file of this kind is imported as such rows.
+abbrev pub AreRowsOf : {Row : Type 0} → ImportKind → (List ℕ → List ℕ → Request) → (List ℕ → Result (List Row) Fault) → (List HostClass → Rule Row) → Type 0
+AreRowsOf kind asks rows_of rule =
+    (world : World) (name content : List ℕ)
+    → IsImportOf world (asks name content) (record { kind = kind; name = name; template = []; content = content }) (rows_of content) (rule world.classes)
 
 -- ---- the class on which the verdict on a row depends
 

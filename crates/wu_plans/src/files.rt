@@ -2,7 +2,6 @@
 
 ghost use Rattle.std.specs.Prelude.{◌≡◌, ◌≤◌, All, IfOk, IfErr};
 ghost use Rattle.wu_core.specs.declared.fault.Fault.TheVariants.{Memory};
-ghost use Rattle.wu_core.specs.declared.import.ImportKind.TheVariants as kind;
 ghost use Rattle.wu_plans.specs.Planning.{given_of, IsNewFile, IsPresentProject, LeavesRows, PlansNow, PlansRows, TakesRows, PlansWorld};
 ghost use Rattle.wu_machine.specs.Requests.{AskReported, AskSent};
 ghost use Rattle.wu_plans.specs.Touched.{LeavesRow, rule_in, TouchesNamed};
@@ -14,8 +13,8 @@ use crate::plan::Plan;
 use crate::touched::{FileRow, Touched};
 use sqlite::{Alter, Connection};
 use std::alloc::Global;
-use wu_core::{Bytes, Fault, ImportKind, Name};
-use wu_feed::{Rows, read_reports, read_sends};
+use wu_core::{Bytes, Fault, Name};
+use wu_feed::{ReportRow, Rows, SendRow};
 use wu_machine::RowsFile;
 use wu_store::{Change, import_of, load_named};
 
@@ -121,6 +120,28 @@ fn plan_rows<'a, R: FileRow, S: Alter>(
     new_file(alloc, source, left)
 }
 
+/// Returns what a file of these rows answers and changes, or the first refusal. In order: the name was used with other
+/// content, the file.
+fn plan_file<'a, R: FileRow, S: Alter>(
+    conn: &mut Connection<S>,
+    alloc: Global,
+    file: &'a RowsFile,
+) -> Result<Plan<'a>, Fault>
+    ensures opens { ServesUnlessFailed S.Store conn.new result }
+    ensures reads { PlansWorld S.Store conn.old conn.new result
+        (PlansNow (R.asks file.now.name file.now.file)) IsPresentProject }
+{
+    let kind = R::kind();
+    let source = file_source(kind, file);
+    match import_of(conn, alloc, kind, &file.name)? {
+        Some(earlier) => repeated(alloc, &source, earlier),
+        None => {
+            let rows = R::read(alloc, file.file.as_slice())?;
+            plan_rows(conn, alloc, &source, rows)
+        }
+    }
+}
+
 /// Returns what a file of sends answers and changes, or the first refusal. In order: the name was used with other
 /// content, the file.
 pub fn plan_sent<'a, S: Alter>(
@@ -137,16 +158,7 @@ pub fn plan_sent<'a, S: Alter>(
     ensures reads { PlansWorld S.Store conn.old conn.new result
         (PlansNow (AskSent file.now.name file.now.file)) IsPresentProject }
 {
-    let source = file_source(ImportKind::Sent, file);
-    match import_of(conn, alloc, ImportKind::Sent, &file.name)? {
-        Some(earlier) => repeated(alloc, &source, earlier),
-        None => plan_rows(
-            conn,
-            alloc,
-            &source,
-            read_sends(alloc, file.file.as_slice())?,
-        ),
-    }
+    plan_file::<SendRow, S>(conn, alloc, file)
 }
 
 /// Returns what a file of reports answers and changes, or the first refusal. In order: the name was used with other
@@ -165,14 +177,5 @@ pub fn plan_reported<'a, S: Alter>(
     ensures reads { PlansWorld S.Store conn.old conn.new result
         (PlansNow (AskReported file.now.name file.now.file)) IsPresentProject }
 {
-    let source = file_source(ImportKind::Reported, file);
-    match import_of(conn, alloc, ImportKind::Reported, &file.name)? {
-        Some(earlier) => repeated(alloc, &source, earlier),
-        None => plan_rows(
-            conn,
-            alloc,
-            &source,
-            read_reports(alloc, file.file.as_slice())?,
-        ),
-    }
+    plan_file::<ReportRow, S>(conn, alloc, file)
 }

@@ -11,24 +11,47 @@ use sqlite::{Alter, Connection};
 use std::alloc::Global;
 use std::collections::BTreeMap;
 use std::marker::Model;
-use wu_core::{Fault, Name, Workunit};
-use wu_feed::{ReportRow, SendRow};
+use wu_core::{Fault, ImportKind, Name, Workunit};
+use wu_feed::{ReportRow, Rows, SendRow, read_reports, read_sends};
 use wu_rules::{ReportVerdict, SendVerdict, report, send};
 use wu_store::{Change, class_of};
 
 /// A row of a file on an instance of one workunit.
 pub trait FileRow: Drop {
-    ghost use Rattle.std.specs.Prelude.{◌≡◌, ◌≢◌, ◌≤◌, ℕ, List};
+    ghost use Rattle.std.specs.Prelude.{◌≡◌, ◌≢◌, ◌≤◌, ℕ, List, IfErr, Result};
     ghost use Rattle.wu_core.specs.Classes.{AreClassed};
+    ghost use Rattle.wu_core.specs.Reads.{IsOrWantsMemory};
+    ghost use Rattle.wu_feed.specs.Rows.{IsFileFault};
+    ghost use Rattle.wu_core.specs.declared.fault.Fault.{Fault};
     ghost use Rattle.wu_core.specs.declared.workunit.HostClass.{HostClass};
     ghost use Rattle.wu_machine.specs.FileRows.{KeepsIdentity, Rule, unknown};
+    ghost use Rattle.wu_machine.specs.Requests.{Request};
+    ghost use Rattle.wu_plans.specs.Touched.{AreRowsOf, rule_in};
     ghost use Rattle.wu_store.specs.Reads.{FindsAt, ReadsClassed};
+
+    /// What a file of this name and this content asks of the machine.
+    ghost asks: { List ℕ → List ℕ → Request };
+
+    /// The rows of a file, or why it has none.
+    ghost rows_of: { List ℕ → Result (List Self) Fault };
 
     /// The class on which the verdict on a row depends, where hosts have these classes.
     ghost class_in: { List HostClass → Self → ℕ };
 
     /// The verdict on a row, and what it makes of its workunit, where this is that class.
     ghost rule: { ℕ → Rule Self };
+
+    /// Returns the kind of a file of such rows.
+    fn kind() -> ImportKind
+        // A new file of this kind is read as such rows, and each has the verdict of the rule.
+        ensures { AreRowsOf result asks rows_of (rule_in rule class_in) };
+
+    /// Reads the rows of a file.
+    fn read(alloc: Global, file: &[u8]) -> Result<Rows<Self>, Fault>
+        // The file is read as its rows, or it is out of memory; any other is refused.
+        ensures rows { IsOrWantsMemory result (rows_of file.now) }
+        // A fault is `Memory`, or `BadFile` with a row and a cause.
+        ensures fault { IfErr result IsFileFault };
 
     /// Returns the name of the row's workunit.
     fn workunit(&self) -> &Name
@@ -64,11 +87,25 @@ pub trait FileRow: Drop {
 }
 
 impl FileRow for SendRow {
+    ghost use Rattle.wu_feed.specs.Sends.{sends_of_file};
+    ghost use Rattle.wu_machine.specs.Requests.{AskSent};
     ghost use Rattle.wu_plans.specs.Touched.{send_class, send_rule_at};
+
+    ghost asks = { AskSent };
+
+    ghost rows_of = { sends_of_file };
 
     ghost class_in = { send_class };
 
     ghost rule = { send_rule_at };
+
+    fn kind() -> ImportKind {
+        ImportKind::Sent
+    }
+
+    fn read(alloc: Global, file: &[u8]) -> Result<Rows<Self>, Fault> {
+        read_sends(alloc, file)
+    }
 
     fn workunit(&self) -> &Name {
         &self.workunit
@@ -88,11 +125,25 @@ impl FileRow for SendRow {
 }
 
 impl FileRow for ReportRow {
+    ghost use Rattle.wu_feed.specs.Reports.{reports_of_file};
+    ghost use Rattle.wu_machine.specs.Requests.{AskReported};
     ghost use Rattle.wu_plans.specs.Touched.{no_class, report_rule_at};
+
+    ghost asks = { AskReported };
+
+    ghost rows_of = { reports_of_file };
 
     ghost class_in = { no_class };
 
     ghost rule = { report_rule_at };
+
+    fn kind() -> ImportKind {
+        ImportKind::Reported
+    }
+
+    fn read(alloc: Global, file: &[u8]) -> Result<Rows<Self>, Fault> {
+        read_reports(alloc, file)
+    }
 
     fn workunit(&self) -> &Name {
         &self.workunit

@@ -4,7 +4,7 @@ use anyhow::{Result, bail};
 use sqlite::{Alter, Connection};
 use std::fs;
 use std::io::{self, Write};
-use wu_arguments::{Action, BadLine, Export, ReadFile, Refusal, Step, steps_of};
+use wu_arguments::{Action, BadLine, Export, Mode, ReadFile, Refusal, Step, steps_of};
 use wu_cli::{Counts, Exported, KeptCounts, MakeExport, Trouble, serve_over, write_refusal};
 use wu_core::Fault;
 use wu_feed::{Rows, ScriptLine, read_script};
@@ -62,11 +62,11 @@ fn step_of(rt: &HostRuntime, line: ScriptLine) -> std::result::Result<Option<Ste
     Ok(steps.into_vec().pop())
 }
 
-/// Returns the action of a line of a script, or why it can't be run. A line that repeats another is refused here.
+/// Returns the action of a line of a script, or why it can't be run. A line that is repeated or tried is refused here.
 pub fn action(rt: &HostRuntime, line: ScriptLine) -> std::result::Result<Action, BadLine> {
     let number = line.number;
     match step_of(rt, line)? {
-        Some(step) if !step.repeats => Ok(step.into_action()),
+        Some(step) if step.mode == Mode::Once => Ok(step.into_action()),
         _ => Err(BadLine {
             number,
             why: Refusal::Repeat,

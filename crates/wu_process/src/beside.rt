@@ -36,11 +36,16 @@ fn len_at(rt: &HostRuntime, path: &str) -> u64 {
     }
 }
 
-/// Returns whether a log that holds a page, or a journal with content, lies beside the path.
-pub fn has_log(rt: &HostRuntime, path: &str) -> Result<bool, AllocError> {
+/// Returns whether a log of at least so many bytes, or a journal with content, lies beside the path.
+fn has_log_of(rt: &HostRuntime, path: &str, fewest: u64) -> Result<bool, AllocError> {
     let log = format!(in rt.alloc(); "{path}-wal")?;
     let journal = format!(in rt.alloc(); "{path}-journal")?;
-    Ok(len_at(rt, log.as_str()) >= SHORTEST_LOG || len_at(rt, journal.as_str()) > 0)
+    Ok(len_at(rt, log.as_str()) >= fewest || len_at(rt, journal.as_str()) > 0)
+}
+
+/// Returns whether a log that holds a page, or a journal with content, lies beside the path.
+pub fn has_log(rt: &HostRuntime, path: &str) -> Result<bool, AllocError> {
+    has_log_of(rt, path, SHORTEST_LOG)
 }
 
 /// Returns whether the file at the path begins as no database does. An empty file can become one, and of a file that
@@ -67,7 +72,8 @@ pub fn bar(rt: &HostRuntime, path: &str) -> Result<(), Trouble>
         Err(error) if error.kind() == ErrorKind::OutOfMemory => return Err(Trouble::Fault(
             Fault::Memory,
         )),
-        Err(_) => has_log(rt, path)?,
+        // A log without a page is kept too: it was beside a database that may be put back.
+        Err(_) => has_log_of(rt, path, 1)?,
     };
     if is_barred || names_log(path) {
         return Err(Trouble::Unopened);

@@ -2,6 +2,7 @@
 //! lets no job succeed. No clause speaks of it.
 
 use crate::database::LeftDatabase;
+use crate::expected::{Expected, expected_of};
 use crate::files::HostFiles;
 use sqlite_disk::Disk;
 use std::alloc::Global;
@@ -86,6 +87,11 @@ impl Hints {
         let order = read_words(rt.alloc(), words.as_slice()).ok()?;
         let before = look_at(rt, database_of(&order)?);
         Some(Hints { order, before })
+    }
+
+    /// Returns how many answers the line or the script gives at least, as far as that is known.
+    pub fn expected(&self, rt: &HostRuntime) -> Option<Expected> {
+        expected_of(rt, &self.order)
     }
 
     /// Returns whether the line is an import that changed nothing, since nothing was written to the database.

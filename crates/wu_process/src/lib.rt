@@ -16,6 +16,7 @@ mod beside;
 mod check;
 mod copy;
 mod database;
+mod expected;
 mod export;
 mod files;
 mod hints;
@@ -27,6 +28,7 @@ mod signs;
 use check::check_path;
 pub use database::LeftDatabase;
 use database::{hold_session, open_and_perform};
+use expected::Expected;
 use export::export;
 use files::HostFiles;
 use hints::Hints;
@@ -222,6 +224,14 @@ fn can_wipe(rt: &HostRuntime) -> bool {
     }
 }
 
+/// Returns how many answers the words give at least, as far as that is known.
+fn expected_answers(rt: &HostRuntime, hints: &Option<Hints>) -> Option<Expected> {
+    match hints {
+        Some(hints) => hints.expected(rt),
+        None => None,
+    }
+}
+
 /// Shows on a terminal what there is to say of a line or a script, as `Hints` does.
 fn show_hints<D: Disk, E: Write>(
     rt: &HostRuntime,
@@ -236,7 +246,8 @@ fn show_hints<D: Disk, E: Write>(
 
 /// Does what the words of the command line ask for, as `run_with`, with the input and the outputs of the process. Nothing
 /// is assumed of the database file. If standard error is a terminal, it shows in the meantime how many answers have gone
-/// out, after how many seconds, and the last one. At the end it shows what `Hints` says. Returns the status to end with.
+/// out of how many, after how many seconds, and the last one. At the end it shows what `Hints` says. Returns the status
+/// to end with.
 pub fn run(rt: &HostRuntime) -> u8
     // The status is that of some call of `run_with`, over some words, some outputs and a database
     // file with any contents; or it is 4.
@@ -256,7 +267,8 @@ pub fn run(rt: &HostRuntime) -> u8
     };
     match BufWriter::new(rt.alloc(), rt.stdout()) {
         Ok(out) => {
-            let signs = Signs::new(is_terminal.then_some(rt.stderr()), *rt, can_wipe);
+            let terminal = is_terminal.then_some(rt.stderr());
+            let signs = Signs::new(terminal, *rt, can_wipe, expected_answers(rt, &hints));
             let mut out = Watched::new(out, signs);
             out.begin();
             let mut input = rt.reader();

@@ -1,19 +1,20 @@
-//! The progress line on a terminal: how many answers have gone out, after how many seconds, and the last of them. No
-//! contract speaks of the terminal; what it shows is wiped before anything else is written. A terminal that cannot wipe
-//! has none. Where rows were skipped, a line stays that says where to read on.
+//! The progress line on a terminal: how many answers of how many have gone out, after how many seconds, and the last.
+//! No contract speaks of the terminal; what it shows is wiped before anything else is written. A terminal that cannot
+//! wipe has none. Where rows were skipped, a line stays that says where to read on.
 
 ghost use Rattle.std.specs.Prelude.{◌≡◌};
 ghost use Rattle.wu_process.specs.Signs.{handed_on};
 
+use crate::expected::Expected;
 use std::io::{self, Write};
 use std::time::Instant;
 
 /// The bytes that wipe the last line of a terminal.
 const WIPE: &[u8] = b"\r\x1b[K";
 
-/// How many bytes of a line are shown at most. They fit into 80 columns if the count and the seconds before them have at
-/// most eight digits together.
-const MOST_SHOWN: usize = 48;
+/// How many bytes of a line are shown at most. They fit into 80 columns if the numbers before them have at most eleven
+/// digits together.
+const MOST_SHOWN: usize = 40;
 
 /// What stays on a terminal where rows were skipped.
 const SKIPPED: &[u8] = b"rows were skipped: lintelthyme explain skips\n";
@@ -76,6 +77,7 @@ pub struct Signs<T: Drop> {
     /// When the program began; `None` if the clock failed.
     begun: Option<Instant>,
     answers: u64,
+    expected: Option<Expected>,
     answer: FirstLine,
     is_shown: bool,
     has_skipped: bool,
@@ -84,13 +86,19 @@ pub struct Signs<T: Drop> {
 impl<T: Write + Drop> Signs<T> {
     /// Makes the progress line of this terminal, or none; its seconds begin now. A terminal that cannot wipe shows no
     /// progress.
-    pub fn new(terminal: Option<T>, clock: HostRuntime, can_wipe: bool) -> Self {
+    pub fn new(
+        terminal: Option<T>,
+        clock: HostRuntime,
+        can_wipe: bool,
+        expected: Option<Expected>,
+    ) -> Self {
         Signs {
             terminal,
             can_wipe,
             clock,
             begun: Instant::now(&clock).ok(),
             answers: 0,
+            expected,
             answer: FirstLine::new(),
             is_shown: false,
             has_skipped: false,
@@ -103,13 +111,14 @@ impl<T: Write + Drop> Signs<T> {
         Some(passed.as_secs())
     }
 
-    /// Shows how many answers went out, after how many seconds, and the last one; before the first, that the database is
-    /// opened.
+    /// Shows how many answers of how many went out, after how many seconds, and the last one; before the first, that
+    /// the database is opened.
     fn tell(&mut self) {
         if !self.can_wipe || self.terminal.is_none() {
             return;
         }
         let answers = self.answers;
+        let expected = self.expected;
         let seconds = self.seconds();
         let Some(terminal) = &mut self.terminal else {
             return;
@@ -119,7 +128,18 @@ impl<T: Write + Drop> Signs<T> {
             let _ = terminal.write_all(b"lintelthyme: opening");
             return;
         }
-        let _ = write!(terminal, "lintelthyme: {answers} done");
+        let _ = write!(terminal, "lintelthyme: {answers}");
+        if let Some(
+            Expected {
+                answers,
+                may_be_more,
+            },
+        ) = expected
+        {
+            let more = if may_be_more { " or more" } else { "" };
+            let _ = write!(terminal, " of {answers}{more}");
+        }
+        let _ = terminal.write_all(b" done");
         if let Some(seconds) = seconds {
             let _ = write!(terminal, ", {seconds} s");
         }

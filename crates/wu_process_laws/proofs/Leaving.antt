@@ -126,6 +126,7 @@ refusal_told (refusal.Text cause) none = absurd (omega (arith, none))
 refusal_told (refusal.Words u) none = usage_told u none
 refusal_told (refusal.Outsider outsider) none = absurd (omega (arith, none))
 refusal_told refusal.Repeat none = absurd (omega (arith, none))
+refusal_told refusal.Try none = absurd (omega (arith, none))
 refusal_told (refusal.Fault f) none = fault_told f none
 
 reason_told : (r : Reason) → reason_status r ≡ 0 → ⊥

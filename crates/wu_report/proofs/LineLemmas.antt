@@ -5,12 +5,13 @@ use Rattle.wu_core.specs.Mask.{error_mask_code}
 use Rattle.wu_core.specs.Words.{import_kind_word, server_state_word, outcome_word, validate_state_word, assimilate_word, file_delete_word}
 use Rattle.wu_core.specs.declared.workunit.Archived.{Archived}
 use Rattle.wu_core.specs.declared.workunit.HostClass.{HostClass}
+use Rattle.wu_views.specs.declared.failures.HostFailures.{HostFailures}
 use Rattle.wu_views.specs.declared.lines.ImportLine.{ImportLine}
 use Rattle.wu_views.specs.declared.lines.ResultLine.{ResultLine}
 use Rattle.wu_views.specs.declared.lines.HostLine.{HostLine}
 use Rattle.wu_views.specs.declared.lines.Summary.{Summary}
 use Rattle.wu_views.specs.declared.lines.WorkunitLine.{WorkunitLine}
-use Rattle.wu_report.specs.Texts.{applied_count, archived_line, bytes_text, class_line, counted, host_line, import_line, line_end, moment_text, next_line, number_or_dash, or_dash, result_line, summary_lines, workunit_line}
+use Rattle.wu_report.specs.Texts.{applied_count, archived_line, bytes_text, class_line, counted, failures_line, host_line, import_line, line_end, moment_text, next_line, number_or_dash, or_dash, result_line, summary_lines, workunit_line}
 
 -- the pieces of a workunit's line
 abbrev pub workunit_pieces : (number : ℕ) (name : List ℕ) (input quorum target errors total successes delay credit mask : ℕ) (canonical : Option ℕ) (assimilate delete : List ℕ) (done : Option ℕ) (class : ℕ) → List ℕ
@@ -68,6 +69,11 @@ counted_pieces-are word n = simp append_assoc
 -- those of the line of the next deadline
 pub next_pieces-are : (deadline : Option ℕ) → next_line deadline ≡ codes "next_deadline " ++ (or_dash moment_text deadline ++ (codes "\n" ++ []))
 next_pieces-are deadline = simp append_assoc
+
+-- those of the line of a host of which instances failed
+pub failures_pieces-are : (it : HostFailures) (host : List ℕ) → host ≡ it.host
+    → failures_line it ≡ codes "host " ++ (host ++ (codes " errors " ++ (decimal it.errors ++ (codes " no_reply " ++ (decimal it.no_replies ++ (codes "\n" ++ []))))))
+failures_pieces-are it host e = rw e (simp append_assoc)
 
 -- those of an import's
 pub import_pieces-are : (it : ImportLine) (word name verdicts : List ℕ) (applied : ℕ) (first : List ℕ)

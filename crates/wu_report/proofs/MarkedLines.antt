@@ -25,6 +25,7 @@ use Rattle.wu_core.specs.Hosts.{hosts_of}
 use Rattle.wu_core.specs.Storable.{IsHost, IsName, IsStorable, IsStoredInstance}
 use Rattle.wu_core.specs.Words.{import_kind_word, server_state_word, outcome_word, validate_state_word, assimilate_word, file_delete_word}
 use Rattle.wu_core.specs.World.{Import, World}
+use Rattle.wu_views.specs.declared.failures.HostFailures.{HostFailures}
 use Rattle.wu_views.specs.declared.lines.HostLine.{HostLine}
 use Rattle.wu_views.specs.declared.lines.ImportLine.{ImportLine}
 use Rattle.wu_views.specs.declared.lines.ResultLine.{ResultLine}
@@ -33,16 +34,19 @@ use Rattle.wu_views.specs.declared.lines.WorkunitLine.{WorkunitLine}
 use Rattle.wu_views.specs.declared.waiting.DueLine.{DueLine}
 use Rattle.wu_views.specs.declared.waiting.StatusLine.{StatusLine}
 use Rattle.wu_views.specs.declared.waiting.StatusLine.TheVariants as status
-use Rattle.wu_views.specs.Waiting.{status_lines}
+use Rattle.wu_views.specs.Waiting.{count_lines, due_lines, status_lines}
+use Rattle.wu_views.specs.Failures.{worst_hosts}
+use Rattle.wu_views.specs.Tallies.{deadlines_of, decisions_of}
 use Rattle.wu_rules.specs.declared.due.Pass.{Pass}
 use Rattle.wu_rules.specs.declared.due.Pass.TheVariants as pass
 use Rattle.wu_views.specs.Imports.{imports_in_order}
 use Rattle.wu_views.proofs.ImportLemmas.{each_in_order}
+use Rattle.wu_views.proofs.NamedHosts.{worst_have}
 use Rattle.wu_views.specs.Lines.{archived_lines, AreImportsStorable, class_lines, host_line_of, host_lines, import_line_of, import_lines, import_lines_named, line_of, result_line_of, result_lines, result_lines_of, summary_of, workunit_lines}
 use Rattle.wu_machine.specs.declared.view.View.{View}
 use Rattle.wu_machine.specs.declared.view.View.TheVariants as view
 use Rattle.wu_report.specs.Marks.{HasValidNames}
-use Rattle.wu_report.specs.Texts.{archived_line, bytes_text, class_line, counted, due_line, host_line, import_line, line_end, moment_text, next_line, number_or_dash, or_dash, pass_word, result_line, status_line, summary_lines, view_text, workunit_line, import_detail, skip_lines, skip_word}
+use Rattle.wu_report.specs.Texts.{archived_line, bytes_text, class_line, counted, due_line, failures_line, host_line, import_line, line_end, moment_text, next_line, number_or_dash, or_dash, pass_word, result_line, status_line, summary_lines, view_text, workunit_line, import_detail, skip_lines, skip_word}
 use Rattle.wu_report.specs.Views.{CanBeShown}
 use Rattle.wu_report.proofs.MarkedSkips.{skip_inside, skips_whole}
 use Rattle.wu_report.proofs.MarkLemmas.{begun, both_true, begun_decimal, begun_name, digit_inside, IsFront, is_front, IsInside, is_inside, is_unmarked, IsWhole, past, past_decimal, past_name, read_inside, whole_append, whole_flat_map}
@@ -167,12 +171,33 @@ next_whole deadline rest =
     begun (codes "next_deadline ") refl refl ((or_dash moment_text deadline ++ line_end) ++ rest)
     ∙ ap (λ text. is_unmarked false text) (append_assoc (or_dash moment_text deadline) line_end rest) ∙ past_moment deadline (line_end ++ rest)
 
-status_whole : (it : StatusLine) → IsWhole (status_line it)
-status_whole (status.Due it) = due_whole it
-status_whole (status.Undecided n) = counted_whole (codes "undecided") refl refl n
-status_whole (status.GivenUp n) = counted_whole (codes "given_up") refl refl n
-status_whole (status.Overdue n) = counted_whole (codes "overdue") refl refl n
-status_whole (status.NextDeadline deadline) = next_whole deadline
+failures_whole : (it : HostFailures) → IsName it.host → IsWhole (failures_line it)
+failures_whole it named rest =
+    let last = decimal it.no_replies ++ (line_end ++ rest) in
+    let numbers = decimal it.errors ++ (codes " no_reply " ++ last) in
+    let parts : failures_line it ++ rest ≡ codes "host " ++ (it.host ++ (codes " errors " ++ numbers)) = simp append_assoc in
+    ap (is_unmarked true) parts ∙ begun (codes "host ") refl refl (it.host ++ (codes " errors " ++ numbers)) ∙ past_name it.host named (codes " errors " ++ numbers)
+    ∙ past_decimal it.errors (codes " no_reply " ++ last) ∙ past_decimal it.no_replies (line_end ++ rest)
+
+-- a host that is named has a valid name
+abbrev IsStatusNamed : StatusLine → Type 0
+IsStatusNamed (status.Host it) = IsName it.host
+IsStatusNamed other = ⊤
+
+status_whole : (it : StatusLine) → IsStatusNamed it → IsWhole (status_line it)
+status_whole (status.Due it) named = due_whole it
+status_whole (status.Undecided n) named = counted_whole (codes "undecided") refl refl n
+status_whole (status.GivenUp n) named = counted_whole (codes "given_up") refl refl n
+status_whole (status.Overdue n) named = counted_whole (codes "overdue") refl refl n
+status_whole (status.NextDeadline deadline) named = next_whole deadline
+status_whole (status.Host it) named = failures_whole it named
+
+status_named : (world : World) (now : ℕ) → All (λ (it : HostFailures). IsName it.host) (worst_hosts world) → All IsStatusNamed (status_lines now world)
+status_named world now named =
+    let counts = due_lines now world ++ count_lines (decisions_of world) (deadlines_of now world) in
+    All-append IsStatusNamed counts (map status.Host (worst_hosts world))
+    (All-from_recursion IsStatusNamed counts (tt, (tt, (tt, (tt, (tt, (tt, (tt, (tt, (tt, tt))))))))))
+    (All-map IsStatusNamed status.Host (worst_hosts world) named)
 
 -- the text, and the lines of a summary after it, each by its word and its number
 abbrev with_counts : List ℕ → List (List ℕ × ℕ) → List ℕ
@@ -216,7 +241,7 @@ view_whole world view.Archive named = whole_flat_map (λ (row : Archived). IsNam
 view_whole world view.Summary named = summary_whole (summary_of world)
 view_whole world view.Imports named = whole_flat_map (λ (it : ImportLine). IsName it.name) import_line import_whole (import_lines world) named
 view_whole world (view.Import name) named = whole_flat_map (λ (it : ImportLine). IsName it.name) import_detail detail_whole (import_lines_named name world) named
-view_whole world (view.Status now) named = whole_flat_map (λ (it : StatusLine). ⊤) status_line (λ it is. status_whole it) (status_lines now world) (λ k d within. tt)
+view_whole world (view.Status now) named = whole_flat_map IsStatusNamed status_line status_whole (status_lines now world) (status_named world now named)
 view_whole world view.Classes named = whole_flat_map (λ (it : HostClass). IsName it.host) class_line class_whole (class_lines world) named
 
 -- ---- names of what can be read
@@ -240,6 +265,14 @@ results_named (w ∷ workunits) all =
     (instances_named w.name storable.row.name 0 w.instances storable.instances.each)
     (results_named workunits (All-tail IsStorable w workunits all))
 
+hosts_named : (workunits : List Workunit) → All IsStorable workunits → All (λ (i : Instance). IsHost i.host) (flat_map (λ (w : Workunit). w.instances) workunits)
+hosts_named [] all = All-nil (λ (i : Instance). IsHost i.host)
+hosts_named (w ∷ workunits) all =
+    let storable = All-head IsStorable w workunits all in
+    All-append (λ (i : Instance). IsHost i.host) w.instances (flat_map (λ (w : Workunit). w.instances) workunits)
+    (λ k d within. (storable.instances.each k d within).values.host)
+    (hosts_named workunits (All-tail IsStorable w workunits all))
+
 abbrev IsImportNamed : Import → Type 0
 IsImportNamed import = IsName import.name
 
@@ -255,6 +288,6 @@ names_valid world view.Hosts shown = All-map (λ (host : HostLine). IsName host.
 names_valid world view.Archive shown = λ k d within. (shown k d within).name
 names_valid world view.Summary shown = tt
 names_valid world (view.Import name) shown = All-filter (λ (it : ImportLine). bytes_eq it.name name) (λ it. IsName it.name) (import_lines world) (imports_named world shown)
-names_valid world (view.Status now) shown = tt
+names_valid world (view.Status now) shown = worst_have IsName world (hosts_named world.workunits shown)
 names_valid world view.Classes shown = λ k d within. (shown k d within).host
 names_valid world view.Imports shown = imports_named world shown

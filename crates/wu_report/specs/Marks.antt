@@ -5,10 +5,12 @@ use Rattle.wu_core.specs.declared.workunit.Archived.{Archived}
 use Rattle.wu_core.specs.declared.workunit.HostClass.{HostClass}
 use Rattle.wu_core.specs.Storable.{IsHost, IsName}
 use Rattle.wu_core.specs.World.{World}
+use Rattle.wu_views.specs.declared.failures.HostFailures.{HostFailures}
 use Rattle.wu_views.specs.declared.lines.HostLine.{HostLine}
 use Rattle.wu_views.specs.declared.lines.ImportLine.{ImportLine}
 use Rattle.wu_views.specs.declared.lines.ResultLine.{ResultLine}
 use Rattle.wu_views.specs.declared.lines.WorkunitLine.{WorkunitLine}
+use Rattle.wu_views.specs.Failures.{worst_hosts}
 use Rattle.wu_views.specs.Lines.{archived_lines, class_lines, host_lines, import_lines, import_lines_named, result_lines, workunit_lines}
 use Rattle.wu_machine.specs.declared.view.View.{View}
 use Rattle.wu_machine.specs.declared.view.View.TheVariants as view
@@ -33,7 +35,7 @@ HasValidNames world view.Summary = ⊤
 HasValidNames world view.Classes = All (λ (it : HostClass). IsName it.host) (class_lines world)
 HasValidNames world view.Imports = All (λ (line : ImportLine). IsName line.name) (import_lines world)
 HasValidNames world (view.Import name) = All (λ (line : ImportLine). IsName line.name) (import_lines_named name world)
-HasValidNames world (view.Status now) = ⊤
+HasValidNames world (view.Status now) = All (λ (it : HostFailures). IsName it.host) (worst_hosts world)
 
 -- If the names in a view are valid, no line of its text begins with '='.
 abbrev pub NoViewLineIsMarked : Type 0

@@ -12,6 +12,7 @@ use Rattle.wu_core.specs.declared.workunit.HostClass.{HostClass}
 use Rattle.wu_core.specs.Mask.{error_mask_code}
 use Rattle.wu_core.specs.Words.{import_kind_word, server_state_word, outcome_word, validate_state_word, assimilate_word, file_delete_word}
 use Rattle.wu_core.specs.World.{World}
+use Rattle.wu_views.specs.declared.failures.HostFailures.{HostFailures}
 use Rattle.wu_views.specs.declared.lines.HostLine.{HostLine}
 use Rattle.wu_views.specs.declared.lines.ImportLine.{ImportLine}
 use Rattle.wu_views.specs.declared.lines.ResultLine.{ResultLine}
@@ -194,6 +195,10 @@ due_line it = counted (pass_word it.pass) it.count
 abbrev pub next_line : Option ℕ → List ℕ
 next_line deadline = codes "next_deadline " ++ or_dash moment_text deadline ++ line_end
 
+-- The line of a host of which many instances ended with an error or without a reply.
+abbrev pub failures_line : HostFailures → List ℕ
+failures_line it = codes "host " ++ it.host ++ codes " errors " ++ decimal it.errors ++ codes " no_reply " ++ decimal it.no_replies ++ line_end
+
 -- A line on what is open.
 abbrev pub status_line : StatusLine → List ℕ
 status_line (status.Due it) = due_line it
@@ -201,6 +206,7 @@ status_line (status.Undecided n) = counted (codes "undecided") n
 status_line (status.GivenUp n) = counted (codes "given_up") n
 status_line (status.Overdue n) = counted (codes "overdue") n
 status_line (status.NextDeadline deadline) = next_line deadline
+status_line (status.Host it) = failures_line it
 
 -- The twelve lines of a summary.
 abbrev pub summary_lines : Summary → List ℕ

@@ -2,14 +2,14 @@
 
 ghost use Rattle.std.specs.Prelude.{◌≡◌, IsOkUnless};
 ghost use Rattle.wu_core.specs.declared.fault.Fault.TheVariants.{Output};
-ghost use Rattle.wu_report.specs.Texts.{applied_count, bytes_text, counted, next_line, number_or_dash, or_dash, pass_word, summary_lines};
+ghost use Rattle.wu_report.specs.Texts.{applied_count, bytes_text, counted, failures_line, next_line, number_or_dash, or_dash, pass_word, summary_lines};
 ghost use Rattle.wu_report.specs.Writing.{CutsWhatFails, piece_text, WritesTo};
 
 use crate::output::{Piece, Printed, write_pieces};
 use std::io::Write;
 use wu_core::{Archived, Bytes, Deadline, Fault, HostClass, Name};
 use wu_rules::Pass;
-use wu_views::{HostLine, ImportLine, ResultLine, StatusLine, Summary, WorkunitLine};
+use wu_views::{HostFailures, HostLine, ImportLine, ResultLine, StatusLine, Summary, WorkunitLine};
 
 impl Printed for WorkunitLine {
     ghost use Rattle.wu_report.specs.Texts.{workunit_line};
@@ -274,6 +274,26 @@ fn write_next<W: Write>(out: &mut W, deadline: Option<Deadline>) -> Result<(), F
     )
 }
 
+/// Writes how many instances of a host ended with an error, and how many without a reply, as a line.
+fn write_failures<W: Write>(out: &mut W, host: &HostFailures) -> Result<(), Fault>
+    ensures bytes { WritesTo W.contents out.old out.new (failures_line host.now) result }
+    ensures cut { CutsWhatFails W.contents out.old out.new (failures_line host.now) result }
+    ensures fault { IsOkUnless result Output }
+{
+    write_pieces(
+        out,
+        &[
+            Piece::Text("host "),
+            Piece::Text(host.host.as_str()),
+            Piece::Text(" errors "),
+            Piece::Number(host.errors),
+            Piece::Text(" no_reply "),
+            Piece::Number(host.no_replies),
+            Piece::Text("\n"),
+        ],
+    )
+}
+
 impl Printed for StatusLine {
     ghost use Rattle.wu_report.specs.Texts.{status_line};
 
@@ -286,6 +306,7 @@ impl Printed for StatusLine {
             StatusLine::GivenUp(number) => write_counted(out, "given_up", *number),
             StatusLine::Overdue(number) => write_counted(out, "overdue", *number),
             StatusLine::NextDeadline(deadline) => write_next(out, *deadline),
+            StatusLine::Host(host) => write_failures(out, host),
         }
     }
 }

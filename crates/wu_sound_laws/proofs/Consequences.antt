@@ -63,7 +63,7 @@ names_sound world sound view.Classes = names_valid world view.Classes sound.clas
 names_sound world sound view.Imports = names_valid world view.Imports (imports_storable world sound)
 names_sound world sound view.Summary = tt
 names_sound world sound (view.Import name) = names_valid world (view.Import name) (imports_storable world sound)
-names_sound world sound (view.Status now) = tt
+names_sound world sound (view.Status now) = names_valid world (view.Status now) sound.storable
 
 pub unmarked : (world : World) → IsSound world → (v : View) → NoLineBeginsWith equals_sign (view_text world v)
 unmarked world sound v = unmarked_whole (view_text world v) (view_whole world v (names_sound world sound v))

@@ -15,4 +15,6 @@ mod WalkLemmas
 mod CountWalks
 pub mod WaitingLemmas
 mod TallyLemmas
+mod FailureLemmas
+pub mod NamedHosts
 mod NamedLemmas

@@ -1,36 +1,30 @@
 -- What walks that count make of the lines of a world.
-use Rattle.std.proofs.Common.{◌≡◌, ◌≢◌, ◌⊎◌, ◌∙◌, ℕ, ◌+◌, Bool, true, false, not, ◌&&◌, if◌then◌else◌, cond, fold, List, [], ◌∷◌, ◌++◌, map, flat_map, filter_map, min, Option, Some, None, Result, Ok, Err, inl, inr, refl, sym, ap, subst, arith}
+use Rattle.std.proofs.Common.{◌≡◌, ◌≢◌, ◌∙◌, ℕ, ◌+◌, Bool, true, false, not, ◌&&◌, if◌then◌else◌, cond, fold, List, [], ◌∷◌, ◌++◌, map, flat_map, filter_map, min, Option, Some, None, Result, Ok, Err, inl, inr, refl, sym, ap, arith}
 use Rattle.std.specs.Prelude.{nat_lt}
 use Rattle.std.specs.Option.{option_map_or}
 use Rattle.std.specs.List.{cons_option, enumerate_from, reduce}
-use Rattle.sqlite.specs.Effect.{Database}
-use Rattle.sqlite.specs.Held.{Held, state}
-use Rattle.sqlite.specs.State.{HasCleanDisk}
+use Rattle.sqlite.specs.Held.{Held}
 use Rattle.sqlite.specs.Store.{Ghosts}
 use Rattle.wu_core.specs.declared.fault.Fault.{Fault}
 use Rattle.wu_core.specs.declared.fault.Fault.TheVariants.{Broken, Memory, NotAProject, Output}
-use Rattle.wu_core.specs.declared.states.ServerState.{ServerState}
-use Rattle.wu_core.specs.declared.states.ServerState.TheVariants as server
 use Rattle.wu_core.specs.declared.workunit.Instance.{Instance}
 use Rattle.wu_core.specs.declared.workunit.Workunit.{Workunit}
 use Rattle.wu_core.specs.World.{World}
 use Rattle.wu_rules.specs.Counts.{is_undecided}
 use Rattle.wu_rules.specs.Instances.{is_in_progress_state, is_overdue}
-use Rattle.wu_store.specs.Loading.{Asks, IsStoreFault, ServesUnlessFailed}
-use Rattle.wu_store.specs.Reads.{FindsAt, ReadsClassed}
+use Rattle.wu_store.specs.Loading.{Asks, IsStoreFault}
+use Rattle.wu_store.specs.Reads.{ReadsClassed}
 use Rattle.wu_store.proofs.AskLemmas.{asks_made, never_err}
 use Rattle.wu_views.specs.Counting.{all_instances}
 use Rattle.wu_views.specs.Lines.{line_of, result_line_of, result_lines, result_lines_of, workunit_lines}
 use Rattle.wu_views.specs.Tallies.{awaited, deadlines_of, decisions_of, earlier, fault_of_count, is_given_up, one_more, with_deadline, with_result, with_workunit}
 use Rattle.wu_views.specs.Walking.{IsWalkFault, TakesAll, Walked}
-use Rattle.wu_views.specs.declared.lines.ResultLine.{ResultLine}
-use Rattle.wu_views.specs.declared.lines.WorkunitLine.{WorkunitLine}
 use Rattle.wu_views.specs.declared.tallies.Deadlines.{Deadlines}
 use Rattle.wu_views.specs.declared.tallies.Decisions.{Decisions}
 
 -- ---- lists of lines
 
-takes_split : {K T : Type 0} (Takes : K → K → T → Type 0) (old new : K) (xs ys : List T) → TakesAll Takes old new (xs ++ ys) → (mid : K) × TakesAll Takes old mid xs × TakesAll Takes mid new ys
+pub takes_split : {K T : Type 0} (Takes : K → K → T → Type 0) (old new : K) (xs ys : List T) → TakesAll Takes old new (xs ++ ys) → (mid : K) × TakesAll Takes old mid xs × TakesAll Takes mid new ys
 takes_split Takes old new [] ys all = (old, refl, all)
 takes_split Takes old new (x ∷ xs) ys (next, one, rest) = let it = takes_split Takes next new xs ys rest in (it.0, (next, one, it.1), it.2)
 
@@ -169,19 +163,20 @@ module _ {S R U : Type 0} (g : Ghosts S) (old new : Held S) where
 
 module _ {S T K R U : Type 0} (g : Ghosts S) {lines_of : World → List T} {IsReadable : World → Type 0} {Takes Refuses : K → K → T → Type 0} (old new : Held S) (first last : K) where
   -- what is made of all lines
-  pub walk_made : (x : R) (y : U) (of : World → U) → Walked g lines_of IsReadable Takes Refuses old new first last (Ok x) → ((world : World) → TakesAll Takes first last (lines_of world) → y ≡ of world)
-      → ReadsClassed g old new (Ok y) (FindsAt of) IsReadable
-  walk_made x y of it made = record {
+  pub walk_made : (x : R) (y : U) (Finds : Result U Fault → World → Type 0) → Walked g lines_of IsReadable Takes Refuses old new first last (Ok x) → ((world : World) → TakesAll Takes first last (lines_of world) → Finds (Ok y) world)
+      → ReadsClassed g old new (Ok y) Finds IsReadable
+  walk_made x y Finds it made = record {
     asks = asks_made g old new x (Ok y) (never_err y) it.asks;
     fault = tt;
     found = λ clean world stood. made world (it.lines clean world stood.0 stood.1);
     unrefused = λ clean world stood can limit. tt;
   }
 
-  pub walk_failed : (fault : Fault) (of : World → U) → Walked {R = R} g lines_of IsReadable Takes Refuses old new first last (Err fault) → ReadsClassed g old new (Err (fault_of_count fault)) (FindsAt of) IsReadable
-  walk_failed fault of it = record {
+  pub walk_failed : (fault : Fault) (Finds : Result U Fault → World → Type 0) → Walked {R = R} g lines_of IsReadable Takes Refuses old new first last (Err fault) → ((world : World) → Finds (Err (fault_of_count fault)) world)
+      → ReadsClassed g old new (Err (fault_of_count fault)) Finds IsReadable
+  walk_failed fault Finds it none = record {
     asks = counted_asks {R = R} g old new fault it.asks;
     fault = counted_fault fault it.fault;
-    found = λ clean world stood. tt;
+    found = λ clean world stood. none world;
     unrefused = λ clean world stood can limit. counted_refused fault (it.unrefused clean world stood.0 stood.1 can limit);
   }

@@ -1,4 +1,5 @@
 pub mod Counting
+pub mod Failures
 pub mod Imports
 pub mod Lines
 pub mod Listings

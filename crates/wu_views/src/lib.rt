@@ -5,6 +5,7 @@
 #![tactic(auto)]
 
 mod counts;
+mod failures;
 mod lines;
 mod listings;
 mod named;
@@ -15,6 +16,7 @@ mod waiting;
 mod walking;
 
 pub use counts::summary;
+pub use failures::HostFailures;
 pub use lines::{HostLine, ImportLine, ResultLine, Summary, WorkunitLine};
 pub use listings::{
     ArchiveListing, ClassListing, HostListing, ImportListing, Listing, ResultListing,

@@ -1,6 +1,6 @@
 //! How the workunits and the instances of a project stand, counted line by line.
 
-ghost use Rattle.std.specs.Prelude.{◌≡◌, IfErr, IfOk, IsOkUnless};
+ghost use Rattle.std.specs.Prelude.{◌≡◌, ◌+◌, IfErr, IfOk, IsOkUnless};
 ghost use Rattle.wu_core.specs.declared.fault.Fault.TheVariants.{Output};
 ghost use Rattle.wu_core.specs.Storable.{AreStorable};
 ghost use Rattle.wu_store.specs.Loading.{IsStoreFault, ServesUnlessFailed};
@@ -14,22 +14,27 @@ use sqlite::{Alter, Connection};
 use std::alloc::Global;
 use wu_core::{Deadline, Fault, Moment, ServerState};
 
+/// Returns the sum of two numbers. Returns `Output` if it does not fit, since no more lines are taken then.
+pub(crate) fn sum(one: u64, other: u64) -> Result<u64, Fault>
+    ensures ok { IfOk result (λ n. n ≡ one + other) }
+    ensures fault { IsOkUnless result Output }
+{
+    match one.checked_add(other) {
+        Some(sum) => Ok(sum),
+        None => Err(Fault::Output),
+    }
+}
+
 /// Returns the number, and one more if `counts`. Returns `Output` at 2^64, since no more lines are taken then.
 fn one_more(number: u64, counts: bool) -> Result<u64, Fault>
     ensures ok { IfOk result (λ n. n ≡ one_more number counts) }
     ensures fault { IsOkUnless result Output }
 {
-    if !counts {
-        return Ok(number);
-    }
-    match number.checked_add(1) {
-        Some(more) => Ok(more),
-        None => Err(Fault::Output),
-    }
+    if counts { sum(number, 1) } else { Ok(number) }
 }
 
 /// Returns the fault of a count: lines that are too many to be counted are told as out of memory.
-fn fault_of_count(fault: Fault) -> Fault
+pub(crate) fn fault_of_count(fault: Fault) -> Fault
     ensures { result ≡ fault_of_count fault }
 {
     match fault {

@@ -1,15 +1,17 @@
 //! What waits for the passes of a project.
 
-ghost use Rattle.std.specs.Prelude.{◌≡◌, ◌++◌, IfErr, IfOk, ⊤};
+ghost use Rattle.std.specs.Prelude.{◌≡◌, ◌++◌, IfErr, IfOk, map, ⊤};
 ghost use Rattle.wu_core.specs.declared.fault.Fault.TheVariants.{Memory};
 ghost use Rattle.wu_core.specs.Storable.{AreStorable};
 ghost use Rattle.wu_views.specs.Waiting.{count_lines, due_count, FindsDueLines, FindsStatusLines};
+ghost use Rattle.wu_views.specs.declared.waiting.StatusLine.TheVariants.{Host};
 ghost use Rattle.wu_store.specs.Loading.{ServesUnlessFailed};
 ghost use Rattle.wu_store.specs.Reads.{FindsAt, ReadsQueued};
 
+use crate::failures::{HostFailures, worst_hosts};
 use crate::tallies::{Deadlines, Decisions, count_deadlines, count_decisions};
 use sqlite::{Alter, Connection};
-use std::alloc::Global;
+use std::alloc::{AllocError, Global};
 use wu_core::{Deadline, Fault, Moment};
 use wu_rules::Pass;
 use wu_store::due_numbers;
@@ -22,7 +24,7 @@ pub struct DueLine {
 }
 
 /// A line on what is open in a project at a moment.
-#[derive(Clone, Copy)]
+#[derive(Drop)]
 pub enum StatusLine {
     /// How many workunits wait for a pass.
     Due(DueLine),
@@ -34,6 +36,8 @@ pub enum StatusLine {
     Overdue(u64),
     /// The earliest deadline of the other instances in progress; `None` if there is none.
     NextDeadline(Option<Deadline>),
+    /// A host of which many present instances ended with an error or without a reply.
+    Host(HostFailures),
 }
 
 /// All passes, in the order in which a cycle first runs them.
@@ -91,14 +95,29 @@ fn due_lines<S: Alter>(
     Ok(lines)
 }
 
-/// Adds the lines of these numbers.
+/// Adds a line for each of these hosts.
+fn with_hosts(
+    lines: Vec<StatusLine>,
+    hosts: Vec<HostFailures>,
+) -> Result<Vec<StatusLine>, AllocError>
+    ensures { IfOk result (λ found. found.items ≡ lines.items ++ map Host hosts.items) }
+{
+    let mut lines = lines;
+    for host in hosts {
+        lines.push(StatusLine::Host(host))?;
+    }
+    Ok(lines)
+}
+
+/// Adds the lines of these numbers and hosts.
 fn with_counts(
     lines: Vec<StatusLine>,
     decisions: Decisions,
     deadlines: Deadlines,
+    hosts: Vec<HostFailures>,
 ) -> Result<Vec<StatusLine>, Fault>
-    ensures ok { IfOk result
-        (λ found. found.items ≡ lines.items ++ count_lines decisions deadlines) }
+    ensures ok { IfOk result (λ found. found.items
+        ≡ lines.items ++ count_lines decisions deadlines ++ map Host hosts.items) }
     ensures memory { IfErr result (λ fault. fault ≡ Memory) }
 {
     let mut lines = lines;
@@ -106,14 +125,17 @@ fn with_counts(
     lines.push(StatusLine::GivenUp(decisions.given_up))?;
     lines.push(StatusLine::Overdue(deadlines.overdue))?;
     lines.push(StatusLine::NextDeadline(deadlines.next))?;
+    let lines = with_hosts(lines, hosts)?;
     Ok(lines)
 }
 
 /// Returns what is open in a project at a moment: for each pass how many workunits it would change, if it had no limit, in
 /// the order in which a cycle first runs them; how many workunits are undecided, and how many were given up; how many
-/// instances in progress are overdue, and the earliest deadline of the others. A purge is taken to have the least age 0.
+/// instances in progress are overdue, and the earliest deadline of the others; at most ten hosts of which most instances
+/// ended with an error or without a reply. A purge is taken to have the least age 0.
 ///
-/// Walks over all workunits and instances, and holds no list of them. Returns `NotAProject` if a row is invalid.
+/// Walks over all workunits and instances, and holds a list of the hosts with such an instance alone. Returns
+/// `NotAProject` if a row is invalid.
 pub fn status_lines<S: Alter>(
     conn: &mut Connection<S>,
     alloc: Global,
@@ -130,5 +152,6 @@ pub fn status_lines<S: Alter>(
     let due = due_lines(conn, alloc, now)?;
     let decisions = count_decisions(conn, alloc)?;
     let deadlines = count_deadlines(conn, alloc, now)?;
-    with_counts(due, decisions, deadlines)
+    let hosts = worst_hosts(conn, alloc)?;
+    with_counts(due, decisions, deadlines, hosts)
 }

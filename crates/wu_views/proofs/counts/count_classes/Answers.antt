@@ -1,4 +1,4 @@
-use Rattle.wu_schema.proofs.Words.{None, [], refl, state}
+use Rattle.wu_schema.proofs.Words.{[], refl, state}
 use Rattle.wu_schema.proofs.Parts.{HostClasses}
 use Rattle.wu_views.specs.Counting.{class_count}
 use Rattle.wu_views.proofs.CountQuestions.{asked_count, class_count_question}

@@ -1,0 +1,93 @@
+-- A tried line: the commands that the machine accepts of it, and what becomes of its refusal.
+use Rattle.std.specs.Prelude.{◌≡◌, ◌⊎◌, ℕ, Bool, true, false, List, [], ◌∷◌, option_map, Option, Some, None, Result, Ok, Err}
+use Rattle.std.specs.Io.KnownBytes.{Appends}
+use Rattle.sqlite_trees.specs.declared.store.Store.{Ghosts}
+use Rattle.wu_core.specs.World.{World}
+use Rattle.wu_core.specs.declared.fault.Fault.{Fault}
+use Rattle.wu_core.specs.declared.fault.Fault.TheVariants as fault
+use Rattle.wu_machine.specs.declared.command.Command.{Command}
+use Rattle.wu_machine.specs.Commands.{request_of}
+use Rattle.wu_machine.specs.Machine.{reply, step}
+use Rattle.wu_machine.specs.Requests.{Reply}
+use Rattle.wu_passes.specs.Adopting.{older_than_present}
+use Rattle.wu_passes.specs.declared.project.Project.{Project}
+use Rattle.wu_report.specs.Writing.{AppendsFront}
+use Rattle.wu_arguments.specs.declared.action.Action.{Action}
+use Rattle.wu_arguments.specs.declared.action.Action.TheVariants.{Commands, Look}
+use Rattle.wu_arguments.specs.declared.script.Mode.{Mode}
+use Rattle.wu_arguments.specs.declared.script.Mode.TheVariants.{Once, Repeated, Tried}
+use Rattle.wu_cli.specs.Endings.{fault_line}
+use Rattle.wu_cli.specs.Performing.{Performs}
+
+-- Whether the machine may refuse a request with this fault: it is none of the store, of an ended session or of the
+-- output.
+abbrev pub is_refusal : Fault → Bool
+is_refusal fault.NotAProject = false
+is_refusal fault.Memory = false
+is_refusal fault.Broken = false
+is_refusal fault.Ended = false
+is_refusal fault.Output = false
+is_refusal _ = true
+
+-- ---- over a world
+
+-- A command before others, if the machine accepts it.
+abbrev pub if_accepted : Result Reply Fault → Command → List Command → List Command
+if_accepted (Ok answer) command more = command ∷ more
+if_accepted (Err fault) command more = []
+
+-- The commands that the machine accepts, one after another, up to its first refusal.
+abbrev pub accepted : World → List Command → List Command
+accepted world [] = []
+accepted world (command ∷ commands) =
+    if_accepted (reply world (request_of command)) command (accepted (step world (request_of command)) commands)
+
+-- The refusal of a command, or else that of the commands after it.
+abbrev pub refused_or : Result Reply Fault → Option Fault → Option Fault
+refused_or (Ok answer) more = more
+refused_or (Err fault) more = Some fault
+
+-- The machine's first refusal of these commands, one after another.
+abbrev pub first_refusal : World → List Command → Option Fault
+first_refusal world [] = None
+first_refusal world (command ∷ commands) =
+    refused_or (reply world (request_of command)) (first_refusal (step world (request_of command)) commands)
+
+-- Why an action is refused over a world; a view is, over an older version.
+abbrev pub refusal_of : World → Action → Option Fault
+refusal_of world (Commands commands) = first_refusal world commands
+refusal_of world (Look view) = option_map fault.OldSchema (older_than_present world.version)
+
+-- The line that goes out for a refusal.
+abbrev pub refusal_line : Option Fault → List ℕ
+refusal_line None = []
+refusal_line (Some fault) = fault_line fault
+
+-- ---- over a project
+
+module _ {W : Type 0} (contents : W → Option (List ℕ)) where
+  -- The line of the refusal goes out and nothing ended the step; or a prefix of it, and the output did.
+  abbrev pub PassesOver : W → W → Fault → Option Fault → Type 0
+  PassesOver out_old out_new refused None = Appends (contents out_old) (contents out_new) (fault_line refused)
+  PassesOver out_old out_new refused (Some end) = (end ≡ fault.Output) × AppendsFront (contents out_old) (contents out_new) (fault_line refused)
+
+  -- An action ended so, and so its step did: a refusal is passed over, and any other fault ends the step.
+  abbrev pub EndsTried : W → W → Option Fault → Option Fault → Type 0
+  EndsTried out_old out_new None end = (end ≡ None) × (out_new ≡ out_old)
+  EndsTried out_old out_new (Some told) end =
+      ((is_refusal told ≡ true) × PassesOver out_old out_new told end)
+      ⊎ ((is_refusal told ≡ false) × (end ≡ Some told) × (out_new ≡ out_old))
+
+module _ {S W : Type 0} {store : Ghosts S} (contents : W → Option (List ℕ)) where
+  -- The action is done, and its refusal is passed over.
+  pub record Tries (old new : Project S store) (out_old out_new : W) (action : Action) (end : Option Fault) : Type 0 where
+    pub told : Option Fault
+    pub out_done : W
+    pub does : Performs contents old new out_old out_done action told
+    pub ends : EndsTried contents out_done out_new told end
+
+  -- An action is done in this way, and this ended it.
+  abbrev pub PerformsBy : Mode → Project S store → Project S store → W → W → Action → Option Fault → Type 0
+  PerformsBy Once old new out_old out_new action end = Performs contents old new out_old out_new action end
+  PerformsBy Repeated old new out_old out_new action end = Performs contents old new out_old out_new action end
+  PerformsBy Tried old new out_old out_new action end = Tries old new out_old out_new action end

@@ -1,0 +1,6 @@
+use Rattle.std.proofs.Common.{refl}
+use Rattle.wu_plans.proofs.ImportPlans.{asked_sent}
+use Rattle.wu_plans.proofs.touched.SendRowFileRow.kind.Goals as goal
+
+pub returns : goal.returns
+returns g = λ world name content. record { asked = λ is. asked_sent world is name content; read = refl; before = λ came. came }
