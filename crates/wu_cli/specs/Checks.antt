@@ -92,6 +92,7 @@ reason_line reason.InUse = codes "cannot open the database: it is in use" ++ lin
 reason_line reason.NoDatabase = codes "cannot open the database: it is no database that this program reads" ++ line_end
 reason_line reason.OtherKind = codes "cannot open the database: it has auto-vacuum or texts in UTF-16" ++ line_end
 reason_line reason.TwoNames = codes "cannot open the database: its file has a second name, and its log may lie beside that" ++ line_end
+reason_line reason.Journal = codes "cannot open the database: it has a rollback journal, which only sqlite3 rolls back" ++ line_end
 reason_line reason.Damaged = codes "cannot open the database: it is damaged, or the log beside it is of another database" ++ line_end
 reason_line reason.FailingDisk = codes "cannot open the database: the disk failed" ++ line_end
 reason_line reason.FullDisk = codes "cannot open the database: the disk is full" ++ line_end

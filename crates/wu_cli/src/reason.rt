@@ -22,6 +22,8 @@ pub enum Reason {
     OtherKind,
     /// Its file has more names than one, and its log may lie beside another one.
     TwoNames,
+    /// A rollback journal lies beside it, which only SQLite rolls back.
+    Journal,
     /// It is damaged, or the log beside it is that of another database.
     Damaged,
     FailingDisk,
@@ -114,6 +116,9 @@ impl Reason {
             }
             Reason::TwoNames => {
                 "cannot open the database: its file has a second name, and its log may lie beside that\n"
+            }
+            Reason::Journal => {
+                "cannot open the database: it has a rollback journal, which only sqlite3 rolls back\n"
             }
             Reason::Damaged => {
                 "cannot open the database: it is damaged, or the log beside it is of another database\n"

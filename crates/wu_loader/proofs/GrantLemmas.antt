@@ -9,7 +9,7 @@ use Rattle.std.specs.Prelude.{All}
 use Rattle.wu_core.specs.Storable.{IsName}
 use Rattle.sqlite_trees.proofs.ListLemmas.{all-map, ascending-map}
 use Rattle.wu_store.proofs.SameWorld.{read_number, read_text}
-use Rattle.wu_store.proofs.HostNames.{Below, each_host, granted_there, host_there, same_names, some_grant}
+use Rattle.wu_store.proofs.HostNames.{each_host, granted_there, host_there, same_names, some_grant}
 use Rattle.wu_loader.specs.Whole.{IsNoRow}
 use Rattle.wu_loader.proofs.WholeLemmas.{none_permuted}
 use Rattle.wu_loader.proofs.OrderLemmas.{ascending, ascends, in_pairs, named_are, pairs_rise}
@@ -17,7 +17,7 @@ use Rattle.std.proofs.lemmas.List.Elements.{All-from_recursion, recursion_from_A
 use Rattle.wu_schema.specs.Refines.{host_of}
 use Rattle.wu_schema.specs.Stored.{host_cells}
 use Rattle.wu_loader.specs.Rows.{host_row, IsStoredGrant, IsStoredHost}
-use Rattle.wu_core.proofs.HostLemmas.{Ascends, once, pairs_ascend}
+use Rattle.wu_core.proofs.HostLemmas.{Ascends, below, once, pairs_ascend}
 use Rattle.wu_loader.specs.Granting.{by_name, AreHosts, IsGranted, IsListed, Rise}
 use Rattle.wu_loader.specs.declared.rows.Host.{Host}
 
@@ -25,10 +25,10 @@ pub by_name_total : IsTotalOrder by_name
 by_name_total = on_total (λ (h : Host). h.name) nat_list_cmp_total
 
 -- hosts of which each is above the one before it rise
-rise_names : (hosts : List Host) → Rise hosts → Ascends Below (map (λ (h : Host). h.name) hosts)
+rise_names : (hosts : List Host) → Rise hosts → Ascends below (map (λ (h : Host). h.name) hosts)
 rise_names hosts up =
-    let names = ascending-map Below (λ (h : Host). h.name) hosts (ascending by_name by_name_total hosts up) in
-    pairs_ascend Below _ (in_pairs (slice_cmp nat_cmp) _ names)
+    let names = ascending-map below (λ (h : Host). h.name) hosts (ascending by_name by_name_total hosts up) in
+    pairs_ascend below _ (in_pairs (slice_cmp nat_cmp) _ names)
 
 -- ---- hosts that are those of the grants
 
@@ -75,8 +75,8 @@ module _ (grants : List Grant) where
   abbrev all_with : List (List ℕ) → List Host
   all_with names = map (host_with grants) names
 
-  with_rise : (names : List (List ℕ)) → Ascends Below names → IsAscending (λ a b. by_name a b ≡ Less) (all_with names)
-  with_rise names up = ascending-map (λ a b. by_name a b ≡ Less) (host_with grants) names (ascends Below names up)
+  with_rise : (names : List (List ℕ)) → Ascends below names → IsAscending (λ a b. by_name a b ≡ Less) (all_with names)
+  with_rise names up = ascending-map (λ a b. by_name a b ≡ Less) (host_with grants) names (ascends below names up)
 
   with_each : (names : List (List ℕ)) → ((n : List ℕ) → Has names n → Has (hosts_of grants) n) → AllByRecursion (IsGranted grants) (all_with names)
   with_each [] there = tt

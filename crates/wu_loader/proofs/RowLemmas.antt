@@ -8,8 +8,8 @@ use Rattle.wu_schema.specs.Restoring.{Restores}
 use Rattle.wu_schema.specs.Reading.{columns, kind_cell, verdicts_cell}
 use Rattle.wu_core.specs.Formed.{IsInstance}
 use Rattle.wu_schema.proofs.ReadLemmas.{if_ok}
-use Rattle.wu_schema.proofs.ReadingLemmas.{not_ok, same_verdicts, whole_row}
-use Rattle.wu_store.proofs.SameWorld.{kind_again, kind_of, read_blob, read_number, read_text, same_instances}
+use Rattle.wu_schema.proofs.ReadingLemmas.{not_ok, whole_row}
+use Rattle.wu_store.proofs.SameWorld.{import_again, read_import, read_number, read_text, same_by, same_instances}
 use Rattle.wu_loader.specs.Cells.{moment_cells, state_cells, HasMoments}
 use Rattle.wu_loader.specs.declared.rows.PlacedMoments.{PlacedMoments}
 use Rattle.wu_loader.specs.declared.rows.Placed.{Placed}
@@ -43,21 +43,8 @@ pub record ImportReads (row : Row) (a : Import) : Type 0 where
   pub name : IsName a.name
   pub verdicts : AreVerdicts a.kind a.verdicts
 
-same_cells : (a b : Import) → import_cells a ≡ import_cells b → a ≡ b
-same_cells a b same =
-    let kinds = sym (kind_again a.kind) ∙ ap (λ r. kind_of (read_number (column r 0))) same ∙ kind_again b.kind in
-    let verdicts = same_verdicts a.verdicts b.verdicts (ap (λ r. read_text (column r 5)) same) in
-    (λ i. record {
-      kind = kinds i;
-      name = read_text (column (same i) 1);
-      template = read_blob (column (same i) 2);
-      content = read_blob (column (same i) 3);
-      first_number = read_number (column (same i) 4);
-      verdicts = verdicts i;
-    })
-
 pub one_import : (a b : Import) → IsStoredImport a → IsStoredImport b → import_cells a ≡ import_cells b → a ≡ b
-one_import a b is_a is_b same = same_cells a b same
+one_import a b is_a is_b = same_by import_cells read_import import_again a b
 
 pub import_reads : (row : Row) (a : Import) → length row ≡ 6 → Restores kind_cell (λ _. ⊤) (column row 0) (Ok a.kind) → Restores Text IsName (column row 1) (Ok a.name)
     → Restores Blob (λ _. ⊤) (column row 2) (Ok a.template) → Restores Blob (λ _. ⊤) (column row 3) (Ok a.content) → Restores number (λ _. ⊤) (column row 4) (Ok a.first_number)
@@ -77,7 +64,7 @@ module _ (row : Row) (a : Import) (reads : ImportReads row a) where
   pub import_unkept : ¬ MayBeKept a → Restores import_cells IsStoredImport row (Err NotAProject)
   import_unkept not = record {
     value = tt;
-    found = λ b is same. absurd (not (subst MayBeKept (sym (same_cells a b (sym reads.row_is ∙ same))) is.kept));
+    found = λ b is same. absurd (not (subst MayBeKept (sym (same_by import_cells read_import import_again a b (sym reads.row_is ∙ same))) is.kept));
     refused = inr refl;
   }
 

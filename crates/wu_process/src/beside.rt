@@ -48,15 +48,23 @@ pub fn has_log(rt: &HostRuntime, path: &str) -> Result<bool, AllocError> {
     has_log_of(rt, path, SHORTEST_LOG)
 }
 
-/// Returns whether the file at the path begins as no database does. An empty file can become one, and of a file that
-/// cannot be read it is not known. The only fault is `Memory`.
+/// The first byte of a new database that is not made yet.
+const UNMADE: u8 = 0;
+
+/// Returns whether the file at the path begins as no database does. An empty file can become one. So can what a stop left
+/// of a new database: one byte, or a file beside its log, which begins with 0. Of a file that cannot be read it is not
+/// known. The only fault is `Memory`.
 pub fn is_foreign(rt: &HostRuntime, path: &str) -> Result<bool, Fault>
     // The only fault is `Memory`.
     ensures { IfErr result (λ fault. fault ≡ Memory) }
 {
-    match HostFiles::new(rt).read(path, HEADER.len() - 1)? {
-        Some(bytes) => Ok(!bytes.is_empty() && bytes.as_slice() != HEADER),
+    let Some(bytes) = HostFiles::new(rt).read(path, HEADER.len() - 1)? else {
+        return Ok(false);
+    };
+    match bytes.first() {
         None => Ok(false),
+        Some(&UNMADE) => Ok(bytes.len() > 1 && !has_log_of(rt, path, 1)?),
+        Some(_) => Ok(bytes.as_slice() != HEADER),
     }
 }
 
@@ -68,7 +76,7 @@ pub fn bar(rt: &HostRuntime, path: &str) -> Result<(), Trouble>
     ensures { IfErr result IsBar }
 {
     let is_barred = match fs::canonicalize(rt, path) {
-        Ok(real) => !has_log(rt, real.as_str())? && is_foreign(rt, path)?,
+        Ok(real) => !has_log(rt, real.as_str())? && is_foreign(rt, real.as_str())?,
         Err(error) if error.kind() == ErrorKind::OutOfMemory => return Err(Trouble::Fault(
             Fault::Memory,
         )),

@@ -39,7 +39,7 @@ fn hold(rt: &HostRuntime, path: &str, log: &str) -> Result<Option<Files<FileFrom
         Err(OpenError::Busy) => Err(Reason::InUse),
         Err(OpenError::OutOfMemory) => Err(Reason::Memory),
         Err(OpenError::Io(error)) => Err(Reason::of_file(&error)),
-        Err(OpenError::HotJournal) => Err(Reason::Refused),
+        Err(OpenError::HotJournal) => Err(Reason::Journal),
     }
 }
 
@@ -69,7 +69,7 @@ fn refuse_journal(rt: &HostRuntime, path: &str) -> Result<(), Reason> {
     let journal = format!(in rt.alloc(); "{path}-journal").map_err(|_| Reason::Memory)?;
     match bytes_if_any(rt, journal.as_str()) {
         Ok(bytes) if bytes.is_empty() || bytes[0] == 0 => Ok(()),
-        Ok(_) => Err(Reason::Refused),
+        Ok(_) => Err(Reason::Journal),
         Err(error) => Err(Reason::of_file(&error)),
     }
 }

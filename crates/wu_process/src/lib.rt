@@ -36,8 +36,8 @@ use signs::{Cleared, Signs, Watched};
 use sqlite::FileFrom;
 use sqlite_disk::{Disk, Wary};
 use std::alloc::Global;
-use std::env;
 use std::io::{self, BufRead, BufWriter, Input, IsTerminal, Stderr, Stdout, Write};
+use std::{env, fs};
 use wu_arguments::{Order, read_words};
 use wu_cli::{Trouble, Work, explain, lint, unheard};
 use wu_core::Fault;
@@ -224,6 +224,14 @@ fn can_wipe(rt: &HostRuntime) -> bool {
     }
 }
 
+/// Returns whether standard output is a file, so that none of its bytes come to a terminal.
+fn writes_to_file(rt: &HostRuntime) -> bool {
+    match fs::metadata(rt, "/dev/stdout") {
+        Ok(found) => found.is_file(),
+        Err(_) => false,
+    }
+}
+
 /// Returns how many answers the words give at least, as far as that is known.
 fn expected_answers(rt: &HostRuntime, hints: &Option<Hints>) -> Option<Expected> {
     match hints {
@@ -268,7 +276,9 @@ pub fn run(rt: &HostRuntime) -> u8
     match BufWriter::new(rt.alloc(), rt.stdout()) {
         Ok(out) => {
             let terminal = is_terminal.then_some(rt.stderr());
-            let signs = Signs::new(terminal, *rt, can_wipe, expected_answers(rt, &hints));
+            let is_to_file = writes_to_file(rt);
+            let expected = expected_answers(rt, &hints);
+            let signs = Signs::new(terminal, *rt, can_wipe, is_to_file, expected);
             let mut out = Watched::new(out, signs);
             out.begin();
             let mut input = rt.reader();

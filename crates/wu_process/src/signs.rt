@@ -1,4 +1,5 @@
 //! The progress line on a terminal: how many answers of how many have gone out, after how many seconds, and the last.
+//! Of an answer that goes to a file, how many rows have gone out.
 //! No contract speaks of the terminal; what it shows is wiped before anything else is written. A terminal that cannot
 //! wipe has none. Where rows were skipped, a line stays that says where to read on.
 
@@ -16,8 +17,22 @@ const WIPE: &[u8] = b"\r\x1b[K";
 /// digits together.
 const MOST_SHOWN: usize = 40;
 
+/// After how many rows of an answer that goes to a file their number is shown anew.
+const ROWS_BETWEEN: u64 = 10_000;
+
 /// What stays on a terminal where rows were skipped.
 const SKIPPED: &[u8] = b"rows were skipped: lintelthyme explain skips\n";
+
+/// Returns how many rows end in these bytes.
+fn rows_ended(bytes: &[u8]) -> u64 {
+    let mut rows: u64 = 0;
+    for byte in bytes {
+        if *byte == b'\n' {
+            rows = rows.saturating_add(1);
+        }
+    }
+    rows
+}
 
 /// The first line of an answer.
 #[derive(Drop)]
@@ -73,12 +88,16 @@ impl FirstLine {
 pub struct Signs<T: Drop> {
     terminal: Option<T>,
     can_wipe: bool,
+    /// Whether the answers go to a file, so that none of their bytes come to the terminal.
+    is_to_file: bool,
     clock: HostRuntime,
     /// When the program began; `None` if the clock failed.
     begun: Option<Instant>,
     answers: u64,
     expected: Option<Expected>,
     answer: FirstLine,
+    /// How many rows of the answer have gone out, where the answers go to a file.
+    rows: u64,
     is_shown: bool,
     has_skipped: bool,
 }
@@ -90,16 +109,19 @@ impl<T: Write + Drop> Signs<T> {
         terminal: Option<T>,
         clock: HostRuntime,
         can_wipe: bool,
+        is_to_file: bool,
         expected: Option<Expected>,
     ) -> Self {
         Signs {
             terminal,
             can_wipe,
+            is_to_file,
             clock,
             begun: Instant::now(&clock).ok(),
             answers: 0,
             expected,
             answer: FirstLine::new(),
+            rows: 0,
             is_shown: false,
             has_skipped: false,
         }
@@ -149,13 +171,51 @@ impl<T: Write + Drop> Signs<T> {
         }
     }
 
-    /// Takes what is written of an answer.
-    fn take(&mut self, bytes: &[u8]) {
-        if self.terminal.is_none() || self.answer.is_ended {
+    /// Shows how many rows of the answer have gone out, after how many seconds.
+    fn tell_rows(&mut self) {
+        if !self.can_wipe {
+            return;
+        }
+        self.wipe();
+        let rows = self.rows;
+        let seconds = self.seconds();
+        let Some(terminal) = &mut self.terminal else {
+            return;
+        };
+        self.is_shown = true;
+        let _ = write!(terminal, "lintelthyme: {rows} rows");
+        if let Some(seconds) = seconds {
+            let _ = write!(terminal, ", {seconds} s");
+        }
+    }
+
+    /// Counts the rows that end in these bytes, and shows their number from time to time.
+    fn count_rows(&mut self, bytes: &[u8]) {
+        let shown = self.rows / ROWS_BETWEEN;
+        self.rows = self.rows.saturating_add(rows_ended(bytes));
+        if self.rows / ROWS_BETWEEN > shown {
+            self.tell_rows();
+        }
+    }
+
+    /// Takes what is written of the first line of an answer.
+    fn take_line(&mut self, bytes: &[u8]) {
+        if self.answer.is_ended {
             return;
         }
         for byte in bytes {
             self.answer.take(*byte);
+        }
+    }
+
+    /// Takes what is written of an answer.
+    fn take(&mut self, bytes: &[u8]) {
+        if self.terminal.is_none() {
+            return;
+        }
+        self.take_line(bytes);
+        if self.is_to_file {
+            self.count_rows(bytes);
         }
     }
 
@@ -167,6 +227,13 @@ impl<T: Write + Drop> Signs<T> {
         self.is_shown = false;
         if let Some(terminal) = &mut self.terminal {
             let _ = terminal.write_all(WIPE);
+        }
+    }
+
+    /// Wipes what is shown before bytes that may come to the same terminal.
+    fn make_way(&mut self) {
+        if !self.is_to_file {
+            self.wipe();
         }
     }
 
@@ -189,6 +256,7 @@ impl<T: Write + Drop> Signs<T> {
             self.has_skipped = true;
         }
         self.answer = FirstLine::new();
+        self.rows = 0;
     }
 }
 
@@ -221,7 +289,7 @@ impl<O: Write + Drop, T: Write + Drop> Write for Watched<O, T> {
     ghost contents = { λ w. O.contents w.out };
 
     fn write(&mut self, bytes: &[u8]) -> io::Result<usize> {
-        self.signs.wipe();
+        self.signs.make_way();
         let count = self.out.write(bytes)?;
         if let Some(taken) = bytes.get(..count) {
             self.signs.take(taken);

@@ -8,10 +8,9 @@ use Rattle.wu_core.specs.declared.workunit.HostClass.{HostClass}
 use Rattle.wu_views.specs.declared.failures.HostFailures.{HostFailures}
 use Rattle.wu_views.specs.declared.lines.ImportLine.{ImportLine}
 use Rattle.wu_views.specs.declared.lines.ResultLine.{ResultLine}
-use Rattle.wu_views.specs.declared.lines.HostLine.{HostLine}
 use Rattle.wu_views.specs.declared.lines.Summary.{Summary}
 use Rattle.wu_views.specs.declared.lines.WorkunitLine.{WorkunitLine}
-use Rattle.wu_report.specs.Texts.{applied_count, archived_line, bytes_text, class_line, counted, failures_line, host_line, import_line, line_end, moment_text, next_line, number_or_dash, or_dash, result_line, summary_lines, workunit_line}
+use Rattle.wu_report.specs.Texts.{applied_count, archived_line, bytes_text, class_line, counted, failures_line, import_line, line_end, moment_text, next_line, number_or_dash, or_dash, result_line, summary_lines, workunit_line}
 
 -- the pieces of a workunit's line
 abbrev pub workunit_pieces : (number : ℕ) (name : List ℕ) (input quorum target errors total successes delay credit mask : ℕ) (canonical : Option ℕ) (assimilate delete : List ℕ) (done : Option ℕ) (class : ℕ) → List ℕ
@@ -43,11 +42,6 @@ pub result_pieces-are : (r : ResultLine) (name : List ℕ) (n : ℕ) (server out
     ++ (codes " deadline=" ++ (or_dash moment_text r.deadline ++ (codes " received=" ++ (or_dash moment_text r.received_at
     ++ (codes " output=" ++ (decimal r.output ++ (codes "\n" ++ [])))))))))))))))))))))
 result_pieces-are r name n server outcome validate delete host e1 e2 e3 e4 e5 e6 e7 = rw (e1, e2, e3, e4, e5, e6, e7) (simp append_assoc)
-
--- those of a host's
-pub host_pieces-are : (h : HostLine) (name : List ℕ) → name ≡ h.name
-    → host_line h ≡ name ++ (codes " total=" ++ (decimal h.total ++ (codes " grants=" ++ (decimal h.grants ++ (codes "\n" ++ [])))))
-host_pieces-are h name e = rw e (simp append_assoc)
 
 -- those of an archived row's
 pub archived_pieces-are : (a : Archived) (name : List ℕ) (mask : ℕ) (output : List ℕ)

@@ -88,51 +88,31 @@ past_number n rest = by_test (n == 0)
 
 begun_kind : (kind : ImportKind) (rest : List ℕ) → is_unmarked true (import_kind_word kind ++ rest) ≡ is_unmarked false rest
 begun_kind kind.Batch rest = refl
-begun_kind kind.Sent rest = refl
-begun_kind kind.Reported rest = refl
-begun_kind kind.Classes rest = refl
+begun_kind _ rest = refl
 
 pub begun_pass : (pass : Pass) (rest : List ℕ) → is_unmarked true (pass_word pass ++ rest) ≡ is_unmarked false rest
 begun_pass pass.Transition rest = refl
-begun_pass pass.Validate rest = refl
-begun_pass pass.Assimilate rest = refl
-begun_pass pass.Delete rest = refl
-begun_pass pass.Purge rest = refl
+begun_pass _ rest = refl
 
 past_server_state : (state : ServerState) (rest : List ℕ) → is_unmarked false (server_state_word state ++ rest) ≡ is_unmarked false rest
 past_server_state server.Inactive rest = refl
-past_server_state server.Unsent rest = refl
-past_server_state server.InProgress rest = refl
-past_server_state server.Over rest = refl
+past_server_state _ rest = refl
 
 past_outcome : (it : Outcome) (rest : List ℕ) → is_unmarked false (outcome_word it ++ rest) ≡ is_unmarked false rest
 past_outcome outcome.Init rest = refl
-past_outcome outcome.Success rest = refl
-past_outcome outcome.CouldntSend rest = refl
-past_outcome outcome.ClientError rest = refl
-past_outcome outcome.NoReply rest = refl
-past_outcome outcome.DidntNeed rest = refl
-past_outcome outcome.ValidateError rest = refl
-past_outcome outcome.ClientDetached rest = refl
+past_outcome _ rest = refl
 
 past_validate_state : (state : ValidateState) (rest : List ℕ) → is_unmarked false (validate_state_word state ++ rest) ≡ is_unmarked false rest
 past_validate_state validate.Init rest = refl
-past_validate_state validate.Valid rest = refl
-past_validate_state validate.Invalid rest = refl
-past_validate_state validate.NoCheck rest = refl
-past_validate_state validate.Inconclusive rest = refl
-past_validate_state validate.TooLate rest = refl
+past_validate_state _ rest = refl
 
 past_assimilate : (state : Assimilate) (rest : List ℕ) → is_unmarked false (assimilate_word state ++ rest) ≡ is_unmarked false rest
 past_assimilate assimilate.Init rest = refl
-past_assimilate assimilate.Ready rest = refl
-past_assimilate assimilate.Done rest = refl
+past_assimilate _ rest = refl
 
 past_file_delete : (state : FileDelete) (rest : List ℕ) → is_unmarked false (file_delete_word state ++ rest) ≡ is_unmarked false rest
 past_file_delete file_delete.Init rest = refl
-past_file_delete file_delete.Ready rest = refl
-past_file_delete file_delete.Done rest = refl
-past_file_delete file_delete.Error rest = refl
+past_file_delete _ rest = refl
 
 -- ---- lines
 

@@ -44,10 +44,7 @@ send_inside number = by_verdict (send_verdict_numbered number)
     by_verdict : (o : Option SendVerdict) → IfSome (option_map_or send_verdict_word o None) IsInside
     by_verdict None = tt
     by_verdict (Some send.Applied) = tt
-    by_verdict (Some send.Unknown) = refl
-    by_verdict (Some send.NotUnsent) = refl
-    by_verdict (Some send.SameHost) = refl
-    by_verdict (Some send.Class) = refl
+    by_verdict (Some _) = refl
 
 pub report_inside : (number : ℕ) → IfSome (report_skip_word number) IsInside
 report_inside number = by_verdict (report_verdict_numbered number)
@@ -55,18 +52,13 @@ report_inside number = by_verdict (report_verdict_numbered number)
     by_verdict : (o : Option ReportVerdict) → IfSome (option_map_or report_verdict_word o None) IsInside
     by_verdict None = tt
     by_verdict (Some report.Applied) = tt
-    by_verdict (Some report.Unknown) = refl
-    by_verdict (Some report.NotSent) = refl
-    by_verdict (Some report.WrongHost) = refl
-    by_verdict (Some report.BeforeSent) = refl
-    by_verdict (Some report.Over) = refl
+    by_verdict (Some _) = refl
 
 -- the words of each kind of file
 pub skip_inside : (of : ImportKind) (number : ℕ) → IfSome (skip_word of number) IsInside
-skip_inside kind.Batch number = tt
 skip_inside kind.Sent number = send_inside number
 skip_inside kind.Reported number = report_inside number
-skip_inside kind.Classes number = tt
+skip_inside _ number = tt
 
 module _ (word : ℕ → Option (List ℕ)) (inside : (number : ℕ) → IfSome (word number) IsInside) where
   skip_whole : (row : ℕ × ℕ) → IsWhole (skip_line word row)

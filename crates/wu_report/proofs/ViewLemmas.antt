@@ -9,7 +9,7 @@ use Rattle.sqlite.specs.State.{HasCleanDisk}
 use Rattle.sqlite_trees.specs.declared.store.Store.{Ghosts}
 use Rattle.wu_core.specs.World.{World}
 use Rattle.wu_core.specs.declared.fault.Fault.{Fault}
-use Rattle.wu_core.specs.declared.fault.Fault.TheVariants.{Broken, NotAProject, OldSchema, Output}
+use Rattle.wu_core.specs.declared.fault.Fault.TheVariants.{NotAProject, OldSchema, Output}
 use Rattle.wu_schema.specs.Faults.{IsFailure, IsStoreFault}
 use Rattle.wu_schema.specs.Refines.{Refines}
 use Rattle.wu_schema.proofs.AskingLemmas.{never_failed}
@@ -29,11 +29,6 @@ use Rattle.wu_views.specs.declared.lines.Summary.{Summary}
 use Rattle.wu_report.specs.Writers.{CutsLine, WritesLine}
 use Rattle.wu_report.specs.Writing.{AppendsFront, IsCut, WritesBytes}
 
--- what `?` hands on is `Broken` where the fault is
-pub handed_broken : {U : Type 0} (r : Result U Fault) (fault : Fault) → IsErrAnd r (λ other. other ≡ fault) → r ≡ Err Broken → fault ≡ Broken
-handed_broken (Ok y) fault same is = absurd same
-handed_broken (Err other) fault same is = let broke : other ≡ Broken = cc in sym same ∙ broke
-
 -- what only reads ends no session
 pub reads_session : {S T : Type 0} {g : Ghosts S} (old new : Project S g) (r : Result T Fault) → OnlyReads old new → ReadsSession old new r
 reads_session old new r it = record { read = it.read; limit = it.limit; version = it.version; ends = λ going ended. absurd (true≢false (sym ended ∙ it.session ∙ going)) }
@@ -41,11 +36,6 @@ reads_session old new r it = record { read = it.read; limit = it.limit; version 
 -- ---- what is cut
 
 -- a text that failed is cut
-pub output_cut : {T : Type 0} (a b : Option (List ℕ)) (bytes : List ℕ) (r : Result T Fault) → IsErr r → IsCut a b bytes → CutsOutput a b bytes r
-output_cut a b bytes (Ok x) failed cut = tt
-output_cut a b bytes (Err fault) failed cut = λ _. cut
-
--- and so is one that a call wrote which cuts what fails
 pub outputs_cut : {T : Type 0} (a b : Option (List ℕ)) (bytes : List ℕ) (r : Result T Fault) → IfErr r (λ _. IsCut a b bytes) → CutsOutput a b bytes r
 outputs_cut a b bytes (Ok x) cut = tt
 outputs_cut a b bytes (Err fault) cut = λ _. cut

@@ -178,17 +178,19 @@ module _ (table : Table) where
   where_of [] = None
   where_of (p ∷ ps) = Some (both (test_of p) ps)
 
-  abbrev pub sort_of : ℕ → Sort
-  sort_of k = roll-Sort (record { key = column (name_at table k); descending = false; nulls_first = None })
+  -- a column by which rows rise, or fall
+  module _ (falls : Bool) where
+    abbrev sort_of : ℕ → Sort
+    sort_of k = roll-Sort (record { key = column (name_at table k); descending = falls; nulls_first = None })
 
-  abbrev pub rises : ℕ → Term × Key
-  rises k = (col 1 (place_of table k), record { collation = how k; descending = false })
+    abbrev key_by : ℕ → Term × Key
+    key_by k = (col 1 (place_of table k), record { collation = how k; descending = falls })
 
-  abbrev pub order_of : List ℕ → List Sort
-  order_of = map sort_of
+    abbrev order_of : List ℕ → List Sort
+    order_of = map sort_of
 
-  abbrev pub rising : List ℕ → List (Term × Key)
-  rising = map rises
+    abbrev keys_by : List ℕ → List (Term × Key)
+    keys_by = map key_by
 
 module _ (schema : Schema) (title : Name) (at : ℕ) (table : Table) (has : HasTable schema title at table) where
   abbrev pub bound_here : Bound
@@ -319,25 +321,25 @@ module _ (schema : Schema) (title : Name) (at : ℕ) (table : Table) (has : HasT
   no_alias name [] from = refl
   no_alias name (k ∷ ks) from = no_alias name ks (from + 1)
 
-  order_from : (ks os : List ℕ) (done : List (Term × Key)) (b : ℕ) (last : Carried) → length os < b → IsFound table os
-      → sorts_from lower (scope schema title at (map (output_at table) ks) false true) (map (output_at table) ks) done (order_of table os) (so_far 2 b last)
-      ≡ Ok (done ++ rising table os, so_far 2 (b - length os) (carried_after table last os))
+  order_from : (falls : Bool) (ks os : List ℕ) (done : List (Term × Key)) (b : ℕ) (last : Carried) → length os < b → IsFound table os
+      → sorts_from lower (scope schema title at (map (output_at table) ks) false true) (map (output_at table) ks) done (order_of table falls os) (so_far 2 b last)
+      ≡ Ok (done ++ keys_by table falls os, so_far 2 (b - length os) (carried_after table last os))
   unfolding pipeline
-  order_from ks [] done b last some found = let less : b ≡ b - 0 = omega arith in (λ i. Ok (sym (append-nil done) i, so_far 2 (less i) last))
-  order_from ks (o ∷ os) done b last some found =
+  order_from falls ks [] done b last some found = let less : b ≡ b - 0 = omega arith in (λ i. Ok (sym (append-nil done) i, so_far 2 (less i) last))
+  order_from falls ks (o ∷ os) done b last some found =
       let parts = found_first table o os found in
       let less : b - 1 - length os ≡ b - suc (length os) = omega arith in
       rw (
         no_alias (name_at table o) ks 0,
         column_lowers 699 schema title at table (map (output_at table) ks) false true 2 b last has (lt-ltb 1 b (omega (arith, some))) (name_at table o) o (the table o) parts.0 parts.1,
         alone_is o,
-      ) (order_from ks os (done ++ rises table o ∷ []) (b - 1) (declared table o (the table o)) (omega (arith, some)) parts.2
-      ∙ (λ i. Ok (append_assoc done (rises table o ∷ []) (rising table os) i, so_far 2 (less i) (carried_after table (declared table o (the table o)) os))))
+      ) (order_from falls ks os (done ++ key_by table falls o ∷ []) (b - 1) (declared table o (the table o)) (omega (arith, some)) parts.2
+      ∙ (λ i. Ok (append_assoc done (key_by table falls o ∷ []) (keys_by table falls os) i, so_far 2 (less i) (carried_after table (declared table o (the table o)) os))))
 
-  order_lowers : (ks os : List ℕ) (b : ℕ) (last : Carried) → length os < b → IsFound table os
-      → sorts lower (scope schema title at (map (output_at table) ks) false true) (map (output_at table) ks) (order_of table os) (so_far 2 b last) ≡ Ok (rising table os, so_far 2 (b - length os) (carried_after table last os))
+  order_lowers : (falls : Bool) (ks os : List ℕ) (b : ℕ) (last : Carried) → length os < b → IsFound table os
+      → sorts lower (scope schema title at (map (output_at table) ks) false true) (map (output_at table) ks) (order_of table falls os) (so_far 2 b last) ≡ Ok (keys_by table falls os, so_far 2 (b - length os) (carried_after table last os))
   unfolding pipeline
-  order_lowers ks os b last some found = order_from ks os [] b last some found
+  order_lowers falls ks os b last some found = order_from falls ks os [] b last some found
 
 -- ---- a SELECT of one table: the columns it shows by their places, which columns equal which parameters, by which columns it sorts, and its LIMIT
 
@@ -354,12 +356,6 @@ module _ (title : Name) (table : Table) (q : Asked) where
   abbrev pub core_of : Core
   core_of = roll-Core (record { distinct = false; shown = map (λ k. one (name_at table k)) q.shown; from = from_table title ∷ []; filter = where_of table q.tests; group = []; having = None })
 
-  abbrev pub select_of : Select
-  select_of = roll-Select (record { with = []; first = core_of; others = []; order = order_of table q.order; limit = q.limit; offset = None })
-
-  abbrev pub parsed_of : Parsed
-  parsed_of = record { statement = written.Select select_of; names = q.parameters; formats = []; start = 0; end = length q.text; tail = length q.text }
-
   abbrev pub terms_of : List Term
   terms_of = map (λ (o : Output). o.term) (map (output_at table) q.shown)
 
@@ -369,31 +365,39 @@ module _ (title : Name) (table : Table) (q : Asked) where
   abbrev pub tests_of : List Term
   tests_of = map (meets table) q.tests
 
-  abbrev pub query_of : Query
-  query_of = record (plain_query table.tree tests_of terms_of) { order = rising table q.order; limit = q.upto }
+  -- in an order in which each column rises, or each falls
+  module _ (falls : Bool) where
+    abbrev pub select_by : Select
+    select_by = roll-Select (record { with = []; first = core_of; others = []; order = order_of table falls q.order; limit = q.limit; offset = None })
 
-  abbrev draft_of : Draft
-  draft_of = record (simple (Inner table.tree ∷ []) tests_of terms_of) { order = rising table q.order; limit = q.upto }
+    abbrev pub parsed_by : Parsed
+    parsed_by = record { statement = written.Select select_by; names = q.parameters; formats = []; start = 0; end = length q.text; tail = length q.text }
 
-  abbrev pub IsTyped : Row → Type 0
-  IsTyped params = (are_tests params (row_classes table ∷ []) tests_of && (are_typed params (row_classes table ∷ []) terms_of && are_typed params (row_classes table ∷ []) (map (λ k. k.0) (rising table q.order)))
-      && (is_count params q.upto && is_count params (lit (Int (pos 0))))) ≡ true
+    abbrev pub query_by : Query
+    query_by = record (plain_query table.tree tests_of terms_of) { order = keys_by table falls q.order; limit = q.upto }
 
--- what is to be seen of a table and a SELECT, each by `refl`
-pub record Fits (title : Name) (table : Table) (q : Asked) : Type 0 where
-  pub shown : IsFound table q.shown
-  pub tests : IsFound table (places q.tests)
-  pub strict : AreStrict table q.tests
-  pub order : IsFound table q.order
-  pub height : (d : ℕ) × FitsUnder d q.tests
-  pub few : length q.shown + where_cost q.tests + length q.order < 99000
-  pub limit : (schema : Schema) → constant_or schema (lit (Int (negsuc 0))) q.limit ≡ Ok q.upto
-  pub read : first q.text ≡ Ok (parsed_of title table q)
-  pub typed : IsTyped title table q []
+    abbrev draft_by : Draft
+    draft_by = record (simple (Inner table.tree ∷ []) tests_of terms_of) { order = keys_by table falls q.order; limit = q.upto }
 
-module _ (schema : Schema) (title : Name) (at : ℕ) (table : Table) (has : HasTable schema title at table) (q : Asked) (fits : Fits title table q) where
+    abbrev pub IsTypedBy : Row → Type 0
+    IsTypedBy params = (are_tests params (row_classes table ∷ []) tests_of && (are_typed params (row_classes table ∷ []) terms_of && are_typed params (row_classes table ∷ []) (map (λ k. k.0) (keys_by table falls q.order)))
+        && (is_count params q.upto && is_count params (lit (Int (pos 0))))) ≡ true
+
+    -- what is to be seen of a table and a SELECT, each by `refl`
+    pub record FitsBy : Type 0 where
+      pub shown : IsFound table q.shown
+      pub tests : IsFound table (places q.tests)
+      pub strict : AreStrict table q.tests
+      pub order : IsFound table q.order
+      pub height : (d : ℕ) × FitsUnder d q.tests
+      pub few : length q.shown + where_cost q.tests + length q.order < 99000
+      pub limit : (schema : Schema) → constant_or schema (lit (Int (negsuc 0))) q.limit ≡ Ok q.upto
+      pub read : first q.text ≡ Ok parsed_by
+      pub typed : IsTypedBy []
+
+module _ (schema : Schema) (title : Name) (at : ℕ) (table : Table) (has : HasTable schema title at table) (q : Asked) (falls : Bool) (fits : FitsBy title table q falls) where
   named_at : (core : Core) → out-Core core ≡ out-Core (core_of title table q)
-      → named schema core (order_of table q.order) (q.upto, lit (Int (pos 0))) ≡ Ok (draft_of title table q, names_of title table q, map (λ (o : Output). o.carried.collation) (map (output_at table) q.shown))
+      → named schema core (order_of table falls q.order) (q.upto, lit (Int (pos 0))) ≡ Ok (draft_by title table q falls, names_of title table q, map (λ (o : Output). o.carried.collation) (map (output_at table) q.shown))
   unfolding pipeline
   named_at core is =
       let rolled = is ∙ out-roll-Core (record { distinct = false; shown = map (λ k. one (name_at table k)) q.shown; from = from_table title ∷ []; filter = where_of table q.tests; group = []; having = None }) in
@@ -404,31 +408,55 @@ module _ (schema : Schema) (title : Name) (at : ℕ) (table : Table) (has : HasT
         columns_lower schema title at table has q.shown 100000 [] nothing (omega (arith, few)) fits.shown,
         has.there,
         where_lowers_with schema title at table has [] fits.height.0 (map (output_at table) q.shown) q.tests (100000 - length q.shown) (carried_after table nothing q.shown) fits.height.1 (omega (arith, few)) fits.tests fits.strict,
-        order_lowers schema title at table has q.shown q.order (100000 - length q.shown - where_cost q.tests) (where_last (carried_after table nothing q.shown) q.tests) (omega (arith, few)) fits.order,
+        order_lowers schema title at table has falls q.shown q.order (100000 - length q.shown - where_cost q.tests) (where_last (carried_after table nothing q.shown) q.tests) (omega (arith, few)) fits.order,
       ) refl
 
   abbrev collations : List (Option Collation)
   collations = map (λ (o : Output). o.carried.collation) (map (output_at table) q.shown)
 
   abbrev layer : Core → Select-F Expr Shown Arm Core Select Sort Source
-  layer core = record { with = []; first = core; others = []; order = order_of table q.order; limit = q.limit; offset = None }
+  layer core = record { with = []; first = core; others = []; order = order_of table falls q.order; limit = q.limit; offset = None }
 
-  query_at : (core : Core) (s : Select) → out-Core core ≡ out-Core (core_of title table q) → out-Select s ≡ layer core → query schema s ≡ Ok ((draft_of title table q, names_of title table q, collations), [])
+  query_at : (core : Core) (s : Select) → out-Core core ≡ out-Core (core_of title table q) → out-Select s ≡ layer core → query schema s ≡ Ok ((draft_by title table q falls, names_of title table q, collations), [])
   unfolding pipeline
   query_at core s is whole =
       let rolled = is ∙ out-roll-Core (record { distinct = false; shown = map (λ k. one (name_at table k)) q.shown; from = from_table title ∷ []; filter = where_of table q.tests; group = []; having = None }) in
-      rw (query_step 15 schema s [], whole, fits.limit schema, rolled, viewing_is (query_to 15) schema schema core (order_of table q.order) (q.upto, lit (Int (pos 0))) _ 63 [] (named_at core is)) refl
+      rw (query_step 15 schema s [], whole, fits.limit schema, rolled, viewing_is (query_to 15) schema schema core (order_of table falls q.order) (q.upto, lit (Int (pos 0))) _ 63 [] (named_at core is)) refl
 
-  program_is : accepts_program schema [] (query_of title table q) [] ≡ true → program schema [] (draft_of title table q) ≡ Ok (by_itself (query_of title table q))
+  program_is : accepts_program schema [] (query_by title table q falls) [] ≡ true → program schema [] (draft_by title table q falls) ≡ Ok (by_itself (query_by title table q falls))
   unfolding pipeline
   program_is typed = rw typed refl
 
-  pub accepts_is : (params : Row) → IsTyped title table q params → accepts_program schema [] (query_of title table q) params ≡ true
-  accepts_is params typed = rw (has.low, has.stands) typed
+  pub accepts_by : (params : Row) → IsTypedBy title table q falls params → accepts_program schema [] (query_by title table q falls) params ≡ true
+  accepts_by params typed = rw (has.low, has.stands) typed
 
-  planned_is : planned schema (parsed_of title table q) ≡ Ok ([], (command.Select (by_itself (query_of title table q)) (names_of title table q), None))
+  planned_is : planned schema (parsed_by title table q falls) ≡ Ok ([], (command.Select (by_itself (query_by title table q falls)) (names_of title table q), None))
   unfolding Rattle.sqlite_resolve.specs.Compile.planned Rattle.sqlite_resolve.specs.Compile.meaning Rattle.sqlite_resolve.specs.Compile.returning Rattle.sqlite_resolve.specs.Compile.command Rattle.sqlite_resolve.specs.Compile.read Rattle.sqlite_resolve.specs.Compile.timed
-  planned_is = rw (query_at (core_of title table q) (select_of title table q) refl (out-roll-Select (layer (core_of title table q))), program_is (accepts_is [] fits.typed)) refl
+  planned_is = rw (query_at (core_of title table q) (select_by title table q falls) refl (out-roll-Select (layer (core_of title table q))), program_is (accepts_by [] fits.typed)) refl
 
-  pub compiles : CompilesTo schema q.text (parsed_of title table q) (command.Select (by_itself (query_of title table q)) (names_of title table q))
-  compiles = compiles_to schema q.text (parsed_of title table q) _ fits.read planned_is
+  pub compiles_by : CompilesTo schema q.text (parsed_by title table q falls) (command.Select (by_itself (query_by title table q falls)) (names_of title table q))
+  compiles_by = compiles_to schema q.text (parsed_by title table q falls) _ fits.read planned_is
+
+-- ---- in a rising order
+
+module _ (title : Name) (table : Table) (q : Asked) where
+  abbrev pub select_of : Select
+  select_of = select_by title table q false
+
+  abbrev pub parsed_of : Parsed
+  parsed_of = parsed_by title table q false
+
+  abbrev pub query_of : Query
+  query_of = query_by title table q false
+
+  abbrev pub IsTyped : Row → Type 0
+  IsTyped = IsTypedBy title table q false
+
+  abbrev pub Fits : Type 0
+  Fits = FitsBy title table q false
+
+pub accepts_is : (schema : Schema) (title : Name) (at : ℕ) (table : Table) → HasTable schema title at table → (q : Asked) → Fits title table q → (params : Row) → IsTyped title table q params → accepts_program schema [] (query_of title table q) params ≡ true
+accepts_is schema title at table has q = accepts_by schema title at table has q false
+
+pub compiles : (schema : Schema) (title : Name) (at : ℕ) (table : Table) → HasTable schema title at table → (q : Asked) → Fits title table q → CompilesTo schema q.text (parsed_of title table q) (command.Select (by_itself (query_of title table q)) (names_of title table q))
+compiles schema title at table has q = compiles_by schema title at table has q false

@@ -1,6 +1,6 @@
 -- A SELECT of ours, whole: what it does to the connection, what it answers, and that it is not refused.
 use Rattle.wu_schema.proofs.AskingLemmas.{asks_now}
-use Rattle.wu_schema.proofs.Words.{Bool, Database, Err, Error, FailsToQuery, Fault, Ghosts, HasCleanDisk, Held, IfErr, IsErrAnd, IsFailure, IsSome, IsTrue, List, None, NotAProject, Ok, Option, Result, Row, Shown, Some, Refines, State, Vec, World, [], arith, fault_of, inl, inr, length, not, option_to_list, refl, state, subst, sym, ℕ, ⊤, ◌++◌, ◌<◌, ◌==◌, ◌∙◌, ◌∷◌, ◌≡◌, ◌≢◌, ◌⊎◌, ◌^◌, ◌≤◌}
+use Rattle.wu_schema.proofs.Words.{ap, Bool, Database, Err, Error, FailsToQuery, Fault, Ghosts, HasCleanDisk, Held, IfErr, IsErrAnd, IsFailure, IsSome, IsTrue, List, None, NotAProject, Ok, Option, Result, Row, Shown, Some, Refines, State, Vec, World, [], arith, fault_of, inl, inr, length, not, option_to_list, refl, state, subst, sym, ℕ, ⊤, ◌++◌, ◌<◌, ◌==◌, ◌∙◌, ◌∷◌, ◌≡◌, ◌≢◌, ◌⊎◌, ◌^◌, ◌≤◌}
 use Rattle.std.specs.Prelude.{IfOk, MatchResult}
 use Rattle.wu_schema.specs.Asking.{Asks, FailsAll, IsSelect, ServesUnlessFailed, ShowsAll, TellsQuery}
 use Rattle.wu_schema.proofs.ReadLemmas.{if_ok, if_err}
@@ -11,7 +11,8 @@ use Rattle.wu_core.specs.declared.fault.Fault.TheVariants.{Broken, Memory}
 pub use Rattle.wu_schema.proofs.AskingLemmas.{asks_fault, asks_made, asks_none, asks_stands, asks_then}
 use Rattle.wu_store.specs.Answers.{ShowsLast}
 use Rattle.wu_store.specs.Loading.{IsStoreFault, StaysUnlessFailed}
-use Rattle.wu_store.specs.Reads.{Reads}
+use Rattle.wu_store.specs.Reads.{Reads, WithClasses}
+use Rattle.wu_store.specs.StandsFor.{KnowsClasses}
 use Rattle.wu_schema.specs.Reading.{IsReadFault}
 
 -- a failure is no refusal
@@ -34,6 +35,11 @@ only_taken found [] (Some x) (Some y) is parts some = let e = sym is ∙ parts i
 only_taken found (z ∷ []) (Some x) (Some y) is parts some = absurd (let e = sym is ∙ parts in cc)
 only_taken found (z ∷ y2 ∷ rest) (Some x) (Some y) is parts some = absurd (let e = sym is ∙ parts in cc)
 
+-- what `?` hands on is the fault
+pub handed_is : {U : Type 0} (r : Result U Fault) (fault : Fault) → IsErrAnd r (λ other. other ≡ fault) → r ≡ Err fault
+handed_is (Ok y) fault same = absurd same
+handed_is (Err other) fault same = ap (λ f. Err f) same
+
 -- ---- what is made of an answer, and a fault that is handed on
 
 module _ {S T U : Type 0} (g : Ghosts S) (old new : Held S) (Over : Database → World → Type 0) (Is : T → World → Type 0) (Then : U → World → Type 0) where
@@ -49,8 +55,7 @@ module _ {S T U : Type 0} (g : Ghosts S) (old new : Held S) (Over : Database →
   }
 
   pub asked_err : (fault : Fault) (r : Result U Fault) → IsErrAnd r (λ other. other ≡ fault) → HasAsked g old new (Err fault) Over Is → HasAsked g old new r Over Then
-  asked_err fault (Ok y) same it = absurd same
-  asked_err fault (Err other) same it = subst (λ f. HasAsked g old new (Err f) Over Then) (sym same) (record {
+  asked_err fault r same it = subst (λ q. HasAsked g old new q Over Then) (sym (handed_is r fault same)) (record {
     opens = it.opens;
     reads = record { asks = asks_fault g old new fault it.reads.asks; fault = it.reads.fault; found = λ clean world stood. tt; unrefused = it.reads.unrefused };
   })
@@ -127,12 +132,10 @@ module _ {S : Type 0} {text : List ℕ} {params : Row} {Over : Database → Worl
 -- ---- a fault that `?` hands on
 
 pub handed_on : {U : Type 0} (r : Result U Fault) (fault : Fault) → IsErrAnd r (λ other. other ≡ fault) → fault ≢ NotAProject → IfErr r (λ other. other ≢ NotAProject)
-handed_on (Ok y) fault same never = tt
-handed_on (Err other) fault same never = λ is. never (sym same ∙ is)
+handed_on r fault same never = subst (λ q. IfErr q (λ other. other ≢ NotAProject)) (sym (handed_is r fault same)) never
 
 pub asks_handed : {S T U : Type 0} (g : Ghosts S) (old new : Held S) (r : Result U Fault) (fault : Fault) → IsErrAnd r (λ other. other ≡ fault) → Asks {T = T} g old new (Err fault) → Asks g old new r
-asks_handed g old new (Ok y) fault same it = absurd same
-asks_handed {S} {T} {U} g old new (Err other) fault same it = subst (λ f. Asks {T = U} g old new (Err f)) (sym same) (asks_fault {T = T} {U = U} g old new fault it)
+asks_handed {S} {T} {U} g old new r fault same it = subst (λ q. Asks {T = U} g old new q) (sym (handed_is r fault same)) (asks_fault {T = T} {U = U} g old new fault it)
 
 -- ---- what is said of calls that read, one after another
 
@@ -144,8 +147,7 @@ reads_none g old x finds = record { asks = asks_none g old (Ok x) (λ is. absurd
 pub reads_handed : {S T U : Type 0} (g : Ghosts S) (old new : Held S) {Told : Fault → Type 0} {Over : Database → World → Type 0} {Finds : Result T Fault → World → Type 0} {Can : World → Type 0} {Then : Result U Fault → World → Type 0} {May : World → Type 0} (r : Result U Fault) (fault : Fault) → IsErrAnd r (λ other. other ≡ fault)
     → Reads g old new (Err fault) Told Over Finds Can → ((other : Fault) → Told other → (world : World) → Then (Err other) world) → ((world : World) → Over (state g old).now world → May world → Can world)
     → Reads g old new r Told Over Then May
-reads_handed g old new (Ok y) fault same it then can = absurd same
-reads_handed {U = U} g old new {Told} {Over} {Then = Then} {May} (Err other) fault same it then can = subst (λ f. Reads {T = U} g old new (Err f) Told Over Then May) (sym same) (record {
+reads_handed {U = U} g old new {Told} {Over} {Then = Then} {May} r fault same it then can = subst (λ q. Reads {T = U} g old new q Told Over Then May) (sym (handed_is r fault same)) (record {
   asks = asks_fault g old new fault it.asks;
   fault = it.fault;
   found = λ clean world stood. then fault it.fault world;
@@ -161,6 +163,11 @@ reads_over over it = record {
   found = λ clean world was. it.found clean world (over _ world was);
   unrefused = λ clean world was can limit. it.unrefused clean world (over _ world was) can limit;
 }
+
+-- what is said of worlds with classes
+pub reads_known : {S T : Type 0} {g : Ghosts S} {old new : Held S} {r : Result T Fault} {Told : Fault → Type 0} {Finds : Result T Fault → World → Type 0} {Can : World → Type 0} → Reads g old new r Told WithClasses Finds Can
+    → Reads g old new r Told Refines (λ r world. KnowsClasses world → Finds r world) (λ world. KnowsClasses world × Can world)
+reads_known it = record { asks = it.asks; fault = it.fault; found = λ clean world stands known. it.found clean world (known, stands); unrefused = λ clean world stands can. it.unrefused clean world (can.0, stands) can.1 }
 
 -- of fewer worlds that can be read
 pub reads_can : {S T : Type 0} {g : Ghosts S} {old new : Held S} {r : Result T Fault} {Told : Fault → Type 0} {Over : Database → World → Type 0} {Finds : Result T Fault → World → Type 0} {Can May : World → Type 0} → ((world : World) → Over (state g old).now world → May world → Can world) → Reads g old new r Told Over Finds Can
@@ -227,35 +234,19 @@ module _ {S T U : Type 0} (g : Ghosts S) (old mid new : Held S) {Told : Fault �
 
 module _ {U : Type 0} (r : Result U Fault) (fault : Fault) (same : IsErrAnd r (λ other. other ≡ fault)) where
   pub opens_handed : {S : Type 0} (g : Ghosts S) (new : Held S) → (HasCleanDisk (state g new) → IsFailure fault ⊎ IsTrue (state g new).is_open) → ServesUnlessFailed g new r
-  opens_handed g new it clean = go r same
-    where
-      go : (r : Result U Fault) → IsErrAnd r (λ other. other ≡ fault) → MatchResult r (λ y. IsTrue (state g new).is_open) (λ other. IsFailure other ⊎ IsTrue (state g new).is_open)
-      go (Ok y) same = absurd same
-      go (Err other) same = subst (λ f. IsFailure f ⊎ IsTrue (state g new).is_open) (sym same) (it clean)
+  opens_handed g new it = subst (λ q. ServesUnlessFailed g new q) (sym (handed_is r fault same)) it
 
   pub nothing_handed : (P : U → Type 0) → IfOk r P
-  nothing_handed P = go r same
-    where
-      go : (r : Result U Fault) → IsErrAnd r (λ other. other ≡ fault) → IfOk r P
-      go (Ok y) same = absurd same
-      go (Err other) same = tt
+  nothing_handed P = subst (λ q. IfOk q P) (sym (handed_is r fault same)) tt
 
   pub err_handed : (P : Fault → Type 0) → P fault → IfErr r P
-  err_handed P told = go r same
-    where
-      go : (r : Result U Fault) → IsErrAnd r (λ other. other ≡ fault) → IfErr r P
-      go (Ok y) same = tt
-      go (Err other) same = subst P (sym same) told
+  err_handed P told = subst (λ q. IfErr q P) (sym (handed_is r fault same)) told
 
   pub fault_handed : IsStoreFault fault → IfErr r IsStoreFault
-  fault_handed told = err_handed IsStoreFault told
+  fault_handed = err_handed IsStoreFault
 
   pub match_handed : (P : U → Type 0) → IsStoreFault fault → MatchResult r P IsStoreFault
-  match_handed P told = go r same
-    where
-      go : (r : Result U Fault) → IsErrAnd r (λ other. other ≡ fault) → MatchResult r P IsStoreFault
-      go (Ok y) same = absurd same
-      go (Err other) same = subst IsStoreFault (sym same) told
+  match_handed P told = subst (λ q. MatchResult q P IsStoreFault) (sym (handed_is r fault same)) told
 
 -- one that is no failure of the disk
 pub never_broken : {U : Type 0} (r : Result U Fault) → IfErr r (λ fault. (fault ≡ Memory) ⊎ (fault ≡ NotAProject)) → r ≢ Err Broken
@@ -310,8 +301,7 @@ read_told fault (inl memory) = inl memory
 read_told fault (inr refused) = inr (inr refused)
 
 pub read_handed : {U : Type 0} (r : Result U Fault) (fault : Fault) → IsErrAnd r (λ other. other ≡ fault) → IsReadFault fault → IfErr r IsReadFault
-read_handed (Ok y) fault same told = tt
-read_handed (Err other) fault same told = subst IsReadFault (sym same) told
+read_handed r fault same = err_handed r fault same IsReadFault
 
 -- a number that no key has, before anything is asked
 pub reads_unkeyed : {S : Type 0} (g : Ghosts S) (old : Held S) {Over : Database → World → Type 0} (n : ℕ) (fault : Fault) → fault ≡ NotAProject → 2 ^ 63 ≤ n → Reads {T = ℕ} g old old (Err fault) IsStoreFault Over (λ r world. ⊤) (λ world. n < 2 ^ 63)

@@ -1,12 +1,11 @@
 -- What the statements that change a project do to the world that it stands for.
-use Rattle.wu_schema.proofs.Words.{Archived, ap, Executes, Grant, Import, Instance, Int, Integer, List, None, Null, Ok, Option, Result, Some, Refines, PutsOne, State, Text, Workunit, World, [], archived_at, archived_cells, arith, bound_value, cast, Error, cast_row, codes, grant_at, grant_cells, import_at, import_cells, instance_cells, map, next_rowid, number, number_or_null, of_z, option_map, pos, refl, result_at, stored_archived, stored_grant, stored_workunit, text_or_null, to_z, to_z-of_z, Value, value_rows, w64, workunit_at, workunit_row, ℕ, ℤ, ◌<◌, ◌^◌, ◌∙◌, ◌∷◌, ◌≡◌}
+use Rattle.wu_schema.proofs.Words.{Archived, ap, Executes, Grant, Import, Instance, Int, Integer, List, None, Null, Ok, Option, Some, Refines, PutsOne, State, Text, Workunit, World, [], archived_at, archived_cells, arith, bound_value, cast, Error, cast_row, codes, grant_at, grant_cells, import_at, import_cells, instance_cells, map, next_rowid, number, number_or_null, of_z, option_map, pos, refl, result_at, stored_archived, stored_grant, stored_workunit, text_or_null, to_z, to_z-of_z, Value, value_rows, w64, workunit_at, workunit_row, ℕ, ℤ, ◌<◌, ◌^◌, ◌∙◌, ◌∷◌, ◌≡◌}
 use Rattle.sqlite.specs.Held.{state}
 use Rattle.sqlite.specs.Store.{Ghosts}
 use Rattle.sqlite.specs.declared.transaction.Transaction.{Transaction}
 use Rattle.wu_schema.specs.Calls.{StatementFrame, TransactionFrame}
 use Rattle.wu_schema.proofs.CallLemmas.{part_none, part_then}
-use Rattle.wu_core.specs.World.{MayBeKept}
-use Rattle.wu_store.specs.Changes.{HasInstances, IsNextPlace, PutsGrants, with_archived, with_import, with_instance, with_next, with_version}
+use Rattle.wu_store.specs.Changes.{PutsGrants, with_next, with_version}
 use Rattle.std.proofs.lemmas.Int.{fits_signed_from_abs}
 use Rattle.sqlite.specs.Values as values
 use Rattle.sqlite.specs.Kind.TheVariants.{Text as KindText}
@@ -17,9 +16,8 @@ use Rattle.wu_schema.specs.Classes.{HasClassTables, unbound_in}
 use Rattle.wu_schema.specs.Tables.{IsClassedVersion}
 use Rattle.wu_schema.proofs.ClassLemmas.{stands_with_classes}
 use Rattle.wu_schema.proofs.StandsLemmas.{but_one, lists_still}
-use Rattle.wu_store.proofs.StandsWith.{stands_with_import, stands_with_next}
-use Rattle.wu_store.proofs.PlacedLemmas.{stands_with_instance}
-use Rattle.wu_store.proofs.ListedLemmas.{listed_next, stands_with_archived}
+use Rattle.wu_store.proofs.StandsWith.{stands_with_next}
+use Rattle.wu_store.proofs.ListedLemmas.{listed_next}
 
 pub cast_number : (n : ℕ) → cast Integer (number n) ≡ number n
 cast_number n = cast_int (pos n)
@@ -85,21 +83,12 @@ module _ (old new : State) (world : World) (s : Refines old.now world) where
   pub put_instance : (number n : ℕ) (i : Instance) (count : ℕ) → Executes instance_put.text (instance_cells number n i) old new (Ok count) → PutsOne old.now new.now s.trees.result (Int (next_rowid (old.now.trees s.trees.result)) ∷ instance_cells number n i)
   put_instance number n i count h = puts_one (codes "result") result_at instance_put instance_fits (instance_cells number n i) old new s.tables.result.0 s.trees.result s.tables.result.1 (Null ∷ instance_cells number n i) _ (instance_kept s.trees.result number n i) refl count h
 
-  pub puts_instance : (number n : ℕ) (i : Instance) → HasInstances number n world.workunits → (count : ℕ) → Executes instance_put.text (instance_cells number n i) old new (Ok count) → Refines new.now (with_instance number i world)
-  puts_instance number n i has count h = stands_with_instance old.now new.now world s number n i (put_instance number n i count h) has
-
   pub put_archived : (place : ℕ) (a : Archived) (count : ℕ) → Executes archived_put.text (number place ∷ archived_cells a) old new (Ok count) → PutsOne old.now new.now s.trees.archived (stored_archived (place, a))
   put_archived place a count h =
       puts_one (codes "archived") archived_at archived_put archived_fits (number place ∷ archived_cells a) old new s.tables.archived.0 s.trees.archived s.tables.archived.1 (stored_archived (place, a)) (stored_archived (place, a)) (archived_kept s.trees.archived place a) refl count h
 
-  pub puts_archived : (place : ℕ) (a : Archived) (count : ℕ) → Executes archived_put.text (number place ∷ archived_cells a) old new (Ok count) → IsNextPlace place world.archived → Refines new.now (with_archived a world)
-  puts_archived place a count h = stands_with_archived old.now new.now world s place a (put_archived place a count h)
-
   pub put_import : (import : Import) (count : ℕ) → Executes import_put.text (import_cells import) old new (Ok count) → PutsOne old.now new.now s.trees.import (Int (next_rowid (old.now.trees s.trees.import)) ∷ import_cells import)
   put_import import count h = puts_one (codes "import") import_at import_put import_fits (import_cells import) old new s.tables.import.0 s.trees.import s.tables.import.1 (Null ∷ import_cells import) _ (import_kept s.trees.import import) refl count h
-
-  pub puts_import : (import : Import) (count : ℕ) → Executes import_put.text (import_cells import) old new (Ok count) → MayBeKept import → Refines new.now (with_import import world)
-  puts_import import count h kept = stands_with_import old.now new.now world s import kept (put_import import count h)
 
   pub sets_number : (n count : ℕ) → Executes next_set.text (number n ∷ []) old new (Ok count) → Refines new.now (with_next n world)
   sets_number n count h =

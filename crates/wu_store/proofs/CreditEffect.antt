@@ -1,5 +1,5 @@
 -- What the upsert of a sum makes of the rows of hosts: those of more grants, whose sum it is.
-use Rattle.wu_schema.proofs.Words.{codes, HoldsAll, AllByRecursion, Binary, Enforced, Bool, Chosen, Database, Executes, Grant, Has, HasTables, Int, Integer, IsDatabase, IsPermutation, IsPermutation-map, IsPermutation-sym, IsShaped, IsShaped-filter, IsShaped-put_row, IsTrue, List, Ok, ProjectTrees, Row, Schema, Refines, State, Text, Value, World, [], all_has, and_from, and_parts, ap, ap₂, binary, bytes_eq, bytes_eq-Decides, cast, column, drop, equal, false, false_from_ne_true, first_key, has_mapped, has_rowid, host_at, hosts_of, if◌then◌else◌, inl, inr, is_eq, is_int, is_of, map, map-map, mapped_has, next_rowid, number, passes, pos, put_row, refl, row_at_is, rowid, some_from, some_has, subst, sym, true, value_cmp, without_rowid, ℕ, ℤ, ◌++◌, ◌+◌, ◌||◌, ◌∙◌, ◌∷◌, ◌≡◌}
+use Rattle.wu_schema.proofs.Words.{codes, HoldsAll, AllByRecursion, Binary, Enforced, Bool, Chosen, Database, Executes, Grant, Has, HasTables, Int, Integer, IsDatabase, IsPermutation-sym, IsShaped, IsShaped-put_row, IsTrue, List, Ok, ProjectTrees, Row, Schema, Refines, State, Text, World, [], all_has, and_from, and_parts, ap, ap₂, binary, cases_Bool, bytes_eq, bytes_eq-Decides, cast, column, drop, equal, false, false_from_ne_true, first_key, has_mapped, has_rowid, host_at, hosts_of, if◌then◌else◌, inl, inr, is_eq, is_int, is_of, map, map-map, mapped_has, next_rowid, number, passes, pos, put_row, refl, row_at_is, rowid, some_from, some_has, subst, sym, true, value_cmp, ℕ, ℤ, ◌++◌, ◌+◌, ◌||◌, ◌∙◌, ◌∷◌, ◌≡◌}
 use Rattle.wu_schema.specs.Calm.{IsCalm}
 use Rattle.sqlite_trees.specs.declared.store.Shape.TheVariants as shape
 use Rattle.sqlite_schema.specs.declared.schema.Constraint.TheVariants.{Datatype}
@@ -26,39 +26,29 @@ use Rattle.wu_store.proofs.EqualLemmas.{text_equal}
 use Rattle.wu_store.proofs.HostEffect.{Grown, grows, host_row, summed}
 use Rattle.wu_store.proofs.UpsertTexts.{upsert_text}
 use Rattle.wu_store.proofs.NameKey.{host_key}
-use Rattle.wu_schema.proofs.RowLemmas.{int_value, map_same}
+use Rattle.wu_schema.proofs.RowLemmas.{int_value}
 use Rattle.wu_store.proofs.FallLemmas.{has_own}
 use Rattle.wu_schema.proofs.InsertEffect.{also, no_more, cast_int}
 use Rattle.std.proofs.Common.{append-nil, append_assoc, arith as nats, length, ◌<◌, length-append}
 use Rattle.wu_schema.proofs.Parts.{Grants, HasParts, Holds, HostClasses, Hosts, IsIn, Part, WorkClasses, Keeps, frame, is_part, keeps_both, keeps_but, keeps_calm, parts_there, tree_in}
-use Rattle.wu_store.proofs.InPlaceLemmas.{in_place, replaced}
+use Rattle.wu_store.proofs.InPlaceLemmas.{replaced}
+use Rattle.wu_store.proofs.SetEffect.{holds_set, replaced_shaped}
+use Rattle.wu_store.proofs.WorldOnce.{bytes_same}
 use Rattle.wu_store.proofs.OnceLemmas.{has_permuted, key_once}
 use Rattle.wu_store.proofs.PlacedLemmas.{holds_put, holds_permuted}
 use Rattle.wu_schema.proofs.StandsLemmas.{is_there, lists_still, holds_still}
 use Rattle.wu_store.proofs.SumLemmas.{stored_sum}
 
--- a number with another
-abbrev plus : ℕ → Value → Value
-plus k (Int (pos n)) = number (n + k)
-plus k v = v
-
 abbrev of_grants : Part → Bool
 of_grants q = is_part Grants q || is_part Hosts q
 
--- the table stays one where a row changes where it stands
-shaped_grown : (tree : ℕ) (rows : List Row) (x : Row) (id total count : ℤ) → rowid x ≡ Int id → Has rows x → IsShaped shape.Table rows → IsShaped shape.Table (replaced id (summed tree x total count) rows)
-shaped_grown tree rows x id total count is has shaped =
-    let new = summed tree x total count in
-    let new_is : rowid new ≡ Int id = ap (cast Integer) is ∙ cast_int id in
-    subst (IsShaped shape.Table) (in_place id new x is new_is rows shaped.0 has) (IsShaped-put_row new (without_rowid id rows) (ap is_int new_is) (IsShaped-filter shape.Table _ rows shaped))
+-- the row with its new sums is that of the rowid
+summed_key : (tree : ℕ) (x : Row) (id total count : ℤ) → rowid x ≡ Int id → rowid (summed tree x total count) ≡ Int id
+summed_key tree x id total count is = ap (cast Integer) is ∙ cast_int id
 
 module _ (db : Database) (tree : ℕ) (sound : IsDatabase db) (stands : Has db.schema.tables (host_at tree)) (grants more : List Grant) (sum : HostSum) (are : AreSums (sum ∷ []) more) (h : HoldsHosts (db.trees tree) grants) where
   abbrev rows : List Row
   rows = db.trees tree
-
-  -- the cells of the sum's host with it, any others as they are
-  abbrev grow : Row → Row
-  grow c = if equal Binary (column c 0) (Text sum.name) then column c 0 ∷ plus sum.total (column c 1) ∷ plus sum.grants (column c 2) ∷ [] else c
 
   -- each row has a host's cells
   host_at_row : (r : Row) → Has rows r → (name : List ℕ) × Has (hosts_of grants) name × (drop 1 r ≡ host_cells name (credit_of grants name) (grants_of grants name))
@@ -100,57 +90,40 @@ module _ (db : Database) (tree : ℕ) (sound : IsDatabase db) (stands : Has db.s
           (also (ap (λ v. cast Integer (binary (by.Arith arith.Add) v (number sum.total))) columns.1 ∙ stored_sum (credit_of grants mine.0) sum.total (subst (λ v. is_of Integer (cast Integer (binary (by.Arith arith.Add) v (number sum.total))) ≡ true) columns.1 total_fits))
           (also (ap (λ v. cast Integer (binary (by.Arith arith.Add) v (number sum.grants))) columns.2 ∙ stored_sum (grants_of grants mine.0) sum.grants (subst (λ v. is_of Integer (cast Integer (binary (by.Arith arith.Add) v (number sum.grants))) ≡ true) columns.2 count_fits)) no_more)))
 
-      grows_to : (name : List ℕ) (total count : ℕ) → grow (host_cells name total count) ≡ (if bytes_eq name sum.name then host_cells name (total + sum.total) (count + sum.grants) else host_cells name total count)
-      grows_to name total count = ap (λ b. if b then host_cells name (total + sum.total) (count + sum.grants) else host_cells name total count) (text_equal name sum.name)
-
       abbrev more_cells : List ℕ → Row
       more_cells name = host_cells name (credit_of grants name + sum.total) (grants_of grants name + sum.grants)
 
       abbrev same_cells : List ℕ → Row
       same_cells name = host_cells name (credit_of grants name) (grants_of grants name)
 
-      -- the cells of a host grow where it is the sum's
-      grown_if : (b : Bool) (name : List ℕ) → bytes_eq name sum.name ≡ b → grow (same_cells name) ≡ (if b then more_cells name else same_cells name)
-      grown_if b name is = grows_to name (credit_of grants name) (grants_of grants name) ∙ ap (λ t. if t then more_cells name else same_cells name) is
-
-      -- the row becomes what its cells grow to,
-      mine_grows : (r : Row) → x ≡ r → drop 1 new_row ≡ grow (drop 1 r)
-      mine_grows r one =
-          let cells : drop 1 new_row ≡ more_cells mine.0 = ap (drop 1) new_is in
-          let grown : grow (drop 1 x) ≡ more_cells mine.0 = ap grow mine.2 ∙ grown_if true mine.0 named in
-          cells ∙ sym grown ∙ ap (λ s. grow (drop 1 s)) one
-
-      -- and no other is of that host
-      other_host : (r : Row) → Has rows r → has_rowid id r ≡ false → (name : List ℕ) → column r 1 ≡ Text name → bytes_eq name sum.name ≡ false
+      -- no other row is of that host
+      only : (r : Row) → Has rows r → equal Binary (column (drop 1 r) 0) (Text sum.name) ≡ true → r ≡ x
       unfolding first_key
-      other_host r there other name cell =
-          let n = int_value (rowid r) (all_has (λ s. IsTrue (is_int (rowid s))) rows r h.shaped.1 there) in
-          false_from_ne_true _ (λ same.
-          let names : name ≡ mine.0 = (bytes_eq-Decides name sum.name).0 same ∙ sym ((bytes_eq-Decides mine.0 sum.name).0 named) in
-          let keys : equal Binary (column r 1) (column x 1) ≡ true = ap₂ (equal Binary) cell columns.0 ∙ text_equal name mine.0 ∙ (bytes_eq-Decides name mine.0).1 names in
-          key_once db (host_at tree) 0 (1 ∷ []) refl sound stands x r has there (ap (λ v. is_eq (value_cmp (rowid r) v)) is ∙ other) n.0 id n.1 is (λ at. and_from _ _ keys refl))
+      only r there same = elim (cases_Bool (has_rowid id r)) [
+        | inl tied ↦ sym (row_at_is rows id r h.shaped.0 there tied) ∙ row_at_is rows id x h.shaped.0 has (has_own x id is)
+        | inr off ↦
+            let n = int_value (rowid r) (all_has (λ s. IsTrue (is_int (rowid s))) rows r h.shaped.1 there) in
+            let yours = host_at_row r there in
+            let its : bytes_eq yours.0 sum.name ≡ true = sym (text_equal yours.0 sum.name) ∙ ap (λ c. equal Binary (column c 0) (Text sum.name)) (sym yours.2) ∙ same in
+            let keys : equal Binary (column r 1) (column x 1) ≡ true = ap₂ (equal Binary) (in_cells r yours.0 _ _ yours.2).0 columns.0 ∙ text_equal yours.0 mine.0 ∙ bytes_same yours.0 sum.name mine.0 its named in
+            absurd (key_once db (host_at tree) 0 (1 ∷ []) refl sound stands x r has there (ap (λ v. is_eq (value_cmp (rowid r) v)) is ∙ off) n.0 id n.1 is (λ at. and_from _ _ keys refl))
+      ]
 
-      other_stays : (r : Row) → Has rows r → has_rowid id r ≡ false → (name : List ℕ) → drop 1 r ≡ same_cells name → drop 1 r ≡ grow (drop 1 r)
-      other_stays r there other name are =
-          are ∙ sym (ap grow are ∙ grown_if false name (other_host r there other name (in_cells r name (credit_of grants name) (grants_of grants name) are).0))
+      abbrev set_cells : Row → Row
+      set_cells c = if equal Binary (column c 0) (Text sum.name) then drop 1 new_row else c
 
-      -- each row of the table becomes what its cells grow to
-      each : (r : Row) → Has rows r → drop 1 (if has_rowid id r then new_row else r) ≡ grow (drop 1 r)
-      each r there = go (has_rowid id r) refl
-        where
-          go : (b : Bool) → has_rowid id r ≡ b → drop 1 (if b then new_row else r) ≡ grow (drop 1 r)
-          go true it = mine_grows r (sym (row_at_is rows id x h.shaped.0 has (has_own x id is)) ∙ row_at_is rows id r h.shaped.0 there it)
-          go false other = let yours = host_at_row r there in other_stays r there other yours.0 yours.2
+      -- the cells of a host grow where it is the sum's
+      set_is : (name : List ℕ) → set_cells (same_cells name) ≡ (if bytes_eq name sum.name then more_cells name else same_cells name)
+      set_is name = ap (λ b. if b then drop 1 new_row else same_cells name) (text_equal name sum.name) ∙ elim (cases_Bool (bytes_eq name sum.name)) [
+        | inl on ↦ rw on (ap (drop 1) new_is ∙ ap more_cells ((bytes_eq-Decides mine.0 sum.name).0 named ∙ sym ((bytes_eq-Decides name sum.name).0 on)))
+        | inr off ↦ rw off refl
+      ]
 
       -- a host whose sums grow
       grown_rows : HoldsHosts (replaced id new_row rows) (grants ++ more)
-      grown_rows = record {
-        shaped = shaped_grown tree rows x id (pos sum.total) (pos sum.grants) is has h.shaped;
-        same = subst (IsPermutation (host_list host_cells (grants ++ more))) (sym (map-map (drop 1) (λ r. if has_rowid id r then new_row else r) rows ∙ map_same _ (λ r. grow (drop 1 r)) rows each ∙ sym (map-map grow (drop 1) rows)))
-            (subst (λ cells. IsPermutation cells (map grow (map (drop 1) rows))) (map-map grow (λ name. host_cells name (credit_of grants name) (grants_of grants name)) (hosts_of grants) ∙ (λ i. map (λ name. grows_to name (credit_of grants name) (grants_of grants name) i) (hosts_of grants))
-            ∙ sym (sum_grown host_cells grants more sum are (some_from (λ host. bytes_eq host sum.name) (hosts_of grants) mine.0 mine.1 named)))
-            (IsPermutation-map grow (host_list host_cells grants) (map (drop 1) rows) h.same));
-      }
+      grown_rows = subst (HoldsAll (replaced id new_row rows))
+          (map-map set_cells same_cells (hosts_of grants) ∙ (λ i. map (λ name. set_is name i) (hosts_of grants)) ∙ sym (sum_grown host_cells grants more sum are (some_from (λ host. bytes_eq host sum.name) (hosts_of grants) mine.0 mine.1 named)))
+          (holds_set id new_row rows h.shaped (summed_key tree x id (pos sum.total) (pos sum.grants) is) (λ c. equal Binary (column c 0) (Text sum.name)) x has is (ap (λ c. equal Binary (column c 0) (Text sum.name)) mine.2 ∙ text_equal mine.0 sum.name ∙ named) only (host_list host_cells grants) h)
 
 -- the row that was written obeys its columns' types
 typed : (db : Database) (tree : ℕ) → IsDatabase db → Has db.schema.tables (host_at tree) → (x : Row) (total count : ℤ) → Has (db.trees tree) (summed tree x total count) → (is_of Integer (column (summed tree x total count) 2) ≡ true) × (is_of Integer (column (summed tree x total count) 3) ≡ true)
@@ -181,7 +154,7 @@ module _ (old new : State) (version : ℕ) (t : ProjectTrees) (grants more : Lis
 -- the table of hosts is one then
 shaped_then : (old new : Trees) (tree : ℕ) (name : List ℕ) (total count : ℤ) → Grown old new tree name total count → IsShaped shape.Table (old tree) → IsShaped shape.Table (new tree)
 shaped_then old new tree name total count (inl put) shaped = subst (IsShaped shape.Table) (sym put.1) (IsShaped-put_row (host_row (next_rowid (old tree)) name total count) (old tree) refl shaped)
-shaped_then old new tree name total count (inr (x, id, there, on, is, trees)) shaped = subst (IsShaped shape.Table) (sym trees) (shaped_grown tree (old tree) x id total count is there shaped)
+shaped_then old new tree name total count (inr (x, id, there, on, is, trees)) shaped = subst (IsShaped shape.Table) (sym trees) (replaced_shaped id (summed tree x total count) (old tree) shaped (summed_key tree x id total count is))
 
 pub credits_one : (old new : State) (sum : HostSum) (count : ℕ) → Executes upsert_text (sum_cells sum) old new (Ok count) → Credits (sum ∷ []) old.now new.now
 credits_one old new sum count ran version t has sound shaped =

@@ -1,13 +1,14 @@
 -- Sums of grants: what one of them makes of the cells of hosts, and grants that have given sums.
-use Rattle.wu_schema.proofs.Words.{AllByRecursion, Bool, IsPermutation, Grant, List, [], ap, arith, bytes_eq, cases_Bool, cond, false, filter, hosts_of, if◌then◌else◌, inl, inr, map, refl, subst, suc, sym, true, zero, ℕ, ◌++◌, ◌+◌, ◌-◌, ◌<◌, ◌∙◌, ◌∷◌, ◌≡◌}
+use Rattle.wu_schema.proofs.Words.{AllByRecursion, IsPermutation, IsPermutation-filter, IsPermutation-map, Grant, List, [], ap, arith, bytes_eq, cond, false, filter, hosts_of, if◌then◌else◌, map, map-append, refl, subst, suc, sym, true, zero, ℕ, ◌++◌, ◌+◌, ◌-◌, ◌<◌, ◌∙◌, ◌∷◌, ◌≡◌}
+use Rattle.std.proofs.Common.{zero-add}
 use Rattle.std.specs.Prelude.{sum_by}
 use Rattle.std.proofs.lemmas.Bool.{or_parts}
 use Rattle.std.proofs.lemmas.Cmp.{nat_list_eq_equiv}
 use Rattle.std.proofs.lemmas.List.Elements.{filter-append}
 use Rattle.std.proofs.lemmas.List.Sorted.{sum_by-IsPermutation}
-use Rattle.std.proofs.lemmas.List.Sums.{sum_by-append, sum_by-cons, sum_by_push}
-use Rattle.wu_core.specs.Hosts.{credit_of, grants_of, is_to}
-use Rattle.wu_core.proofs.HostLemmas.{grown_host, host_list, is_among, new_host}
+use Rattle.std.proofs.lemmas.List.Sums.{sum_by-append}
+use Rattle.wu_core.specs.Hosts.{credit_of, grants_of, is_to, with_host}
+use Rattle.wu_core.proofs.HostLemmas.{grants_more, host_comes, host_list, host_stays, hosts_more, is_among, no_credit, no_grants, once}
 use Rattle.wu_store.proofs.HostNames.{same_hosts}
 use Rattle.wu_store.specs.Sums.{AreSums, count_of, is_for, total_of}
 use Rattle.wu_store.specs.declared.changes.HostSum.{HostSum}
@@ -35,20 +36,8 @@ alike_cells cells xs ys credit count =
 -- ---- grants in another order
 
 module _ (xs ys : List Grant) (moved : IsPermutation xs ys) where
-  -- the grants' credit to a host, one by one
-  abbrev to_host : List ℕ → Grant → ℕ
-  to_host name g = cond (is_to name g) g.credit 0
-
-  one_by_one : (name : List ℕ) (grants : List Grant) → credit_of grants name ≡ sum_by (to_host name) grants
-  one_by_one name [] = refl
-  one_by_one name (g ∷ grants) = go (is_to name g) (one_by_one name grants) ∙ sym (sum_by-cons (to_host name) g grants)
-    where
-      go : (b : Bool) → credit_of grants name ≡ sum_by (to_host name) grants → sum_by (λ (x : Grant). x.credit) (cond b (g ∷ filter (is_to name) grants) (filter (is_to name) grants)) ≡ cond b g.credit 0 + sum_by (to_host name) grants
-      go true so = sum_by-cons (λ (x : Grant). x.credit) g (filter (is_to name) grants) ∙ ap (λ n. g.credit + n) so
-      go false so = omega (arith, so)
-
   pub same_credit : (name : List ℕ) → credit_of ys name ≡ credit_of xs name
-  same_credit name = one_by_one name ys ∙ sum_by-IsPermutation (to_host name) xs ys moved ∙ sym (one_by_one name xs)
+  same_credit name = sum_by-IsPermutation (λ (g : Grant). g.credit) _ _ (IsPermutation-filter (is_to name) xs ys moved)
 
   pub same_count : (name : List ℕ) → grants_of ys name ≡ grants_of xs name
   same_count name = sum_by-IsPermutation (λ g. cond (is_to name g) 1 0) xs ys moved
@@ -56,144 +45,79 @@ module _ (xs ys : List Grant) (moved : IsPermutation xs ys) where
 -- ---- one sum
 
 module _ {X : Type 0} (cells : List ℕ → ℕ → ℕ → X) (grants more : List Grant) (sum : HostSum) (are : AreSums (sum ∷ []) more) where
-  -- its credit as one grant's
-  abbrev as_grant : Grant
-  as_grant = record { workunit = 0; n = 0; host = sum.name; credit = sum.total }
+  -- its host has so much more, and no other
+  credit_is : (name : List ℕ) → credit_of (grants ++ more) name ≡ (if bytes_eq sum.name name then credit_of grants name + sum.total else credit_of grants name)
+  credit_is name = credit_both grants more name ∙ ap (λ n. credit_of grants name + n) (sym (are.total name)) ∙ grind arith
 
-  -- and the others that it counts
-  abbrev and_others : List ℕ → ℕ → ℕ
-  and_others name count = if bytes_eq sum.name name then count + (sum.grants - 1) else count
+  count_is : (name : List ℕ) → grants_of (grants ++ more) name ≡ (if bytes_eq sum.name name then grants_of grants name + sum.grants else grants_of grants name)
+  count_is name = grants_both grants more name ∙ ap (λ n. grants_of grants name + n) (sym (are.count name)) ∙ grind arith
 
-  abbrev cells_with : List ℕ → ℕ → ℕ → X
-  cells_with name total count = cells name total (and_others name count)
+  -- the hosts are those of the grants with one to its host
+  hosts_are : hosts_of (grants ++ more) ≡ with_host sum.name (hosts_of grants)
+  hosts_are =
+      let one : Grant = record { workunit = 0; n = 0; host = sum.name; credit = 0 } in
+      let some = are.some.0 in
+      same_hosts (grants ++ more) (grants ++ one ∷ []) (λ name few. grind (arith, few, count_is name, grants_more grants one name)) (λ name few. grind (arith, few, some, count_is name, grants_more grants one name)) ∙ hosts_more grants one
 
-  some : 0 < sum.grants
-  some = are.some.0
+  abbrev old_cells : List ℕ → X
+  old_cells name = cells name (credit_of grants name) (grants_of grants name)
 
-  total_is : (b : Bool) → sum_by (λ (g : Grant). g.credit) (cond b (as_grant ∷ []) []) ≡ sum_by (λ (s : HostSum). s.total) (cond b (sum ∷ []) [])
-  total_is true = refl
-  total_is false = refl
+  abbrev new_cells : List ℕ → X
+  new_cells name = cells name (credit_of (grants ++ more) name) (grants_of (grants ++ more) name)
 
-  credit_is : (name : List ℕ) → credit_of (grants ++ as_grant ∷ []) name ≡ credit_of (grants ++ more) name
-  credit_is name =
-      let a = credit_both grants (as_grant ∷ []) name in
-      let b = credit_both grants more name in
-      let c : credit_of (as_grant ∷ []) name ≡ total_of (sum ∷ []) name = total_is (bytes_eq sum.name name) in
-      let d = are.total name in
-      omega (arith, a, b, c, d)
+  -- only its host has other cells
+  changed : (name : List ℕ) → new_cells name ≡ (if bytes_eq name sum.name then cells name (credit_of grants name + sum.total) (grants_of grants name + sum.grants) else old_cells name)
+  changed name = rw (nat_list_eq_equiv.symm name sum.name) ((λ i. cells name (credit_is name i) (count_is name i)) ∙ grind arith)
 
-  counted : (b : Bool) (n : ℕ) → (if b then n + cond b 1 0 + (sum.grants - 1) else n + cond b 1 0) ≡ n + sum_by (λ (s : HostSum). s.grants) (cond b (sum ∷ []) [])
-  counted true n = let it = some in omega (arith, it)
-  counted false n = refl
-
-  count_is : (name : List ℕ) → and_others name (grants_of (grants ++ as_grant ∷ []) name) ≡ grants_of (grants ++ more) name
-  count_is name =
-      let b = bytes_eq sum.name name in
-      let one : grants_of (grants ++ as_grant ∷ []) name ≡ grants_of grants name + cond b 1 0 = sum_by_push (λ g. cond (is_to name g) 1 0) grants as_grant in
-      ap (and_others name) one ∙ counted b (grants_of grants name) ∙ ap (λ n. grants_of grants name + n) (are.count name) ∙ sym (grants_both grants more name)
-
-  hosts_are : hosts_of (grants ++ as_grant ∷ []) ≡ hosts_of (grants ++ more)
-  hosts_are = same_hosts (grants ++ as_grant ∷ []) (grants ++ more)
-      (λ name. elim (cases_Bool (bytes_eq sum.name name)) [
-        | inl on ↦ λ few. let e = rw on at (count_is name) in omega (arith, few, e)
-        | inr off ↦ λ few. let e = rw off at (count_is name) in omega (arith, few, e)
-      ])
-      (λ name. elim (cases_Bool (bytes_eq sum.name name)) [
-        | inl on ↦ λ few. let a : grants_of (grants ++ as_grant ∷ []) name ≡ grants_of grants name + cond (bytes_eq sum.name name) 1 0 = sum_by_push (λ g. cond (is_to name g) 1 0) grants as_grant in let e = rw on at a in omega (arith, e)
-        | inr off ↦ λ few. let e = rw off at (count_is name) in omega (arith, few, e)
-      ])
-
-  -- so the cells with it are those of the grants with the others
-  cells_are : host_list cells_with (grants ++ as_grant ∷ []) ≡ host_list cells (grants ++ more)
-  cells_are = λ i. map (λ name. cells name (credit_is name i) (count_is name i)) (hosts_are i)
-
-  others : (names : List (List ℕ)) → is_among sum.name names ≡ false → map (λ name. cells_with name (credit_of grants name) (grants_of grants name)) names ≡ map (λ name. cells name (credit_of grants name) (grants_of grants name)) names
+  others : (names : List (List ℕ)) → is_among sum.name names ≡ false → map new_cells names ≡ map old_cells names
   others [] free = refl
   others (h ∷ names) free =
       let parts = or_parts (bytes_eq h sum.name) (is_among sum.name names) free in
-      let off : bytes_eq sum.name h ≡ false = nat_list_eq_equiv.symm sum.name h ∙ parts.0 in
-      let first : cells_with h (credit_of grants h) (grants_of grants h) ≡ cells h (credit_of grants h) (grants_of grants h) = rw off refl in
+      let first : new_cells h ≡ old_cells h = rw (changed h, parts.0) refl in
       (λ i. first i ∷ others names parts.1 i)
 
   -- a host that had no grant comes beside the others
   pub sum_new : is_among sum.name (hosts_of grants) ≡ false → IsPermutation (host_list cells grants ++ cells sum.name sum.total sum.grants ∷ []) (host_list cells (grants ++ more))
   sum_new free =
-      let itself : bytes_eq sum.name sum.name ≡ true = nat_list_eq_equiv.refl sum.name in
-      let all : 1 + (sum.grants - 1) ≡ sum.grants = let it = some in omega (arith, it) in
-      let last : cells_with sum.name sum.total 1 ≡ cells sum.name sum.total sum.grants = rw itself (ap (cells sum.name sum.total) all) in
-      subst (IsPermutation (host_list cells grants ++ cells sum.name sum.total sum.grants ∷ [])) cells_are
-      (subst (λ xs. IsPermutation xs (host_list cells_with (grants ++ as_grant ∷ []))) (λ i. others (hosts_of grants) free i ++ last i ∷ []) (new_host cells_with grants as_grant free))
-
-  grown_if : (name : List ℕ) (total count : ℕ) (b : Bool) → bytes_eq sum.name name ≡ b
-      → (if b then cells_with name (total + sum.total) (count + 1) else cells_with name total count) ≡ (if b then cells name (total + sum.total) (count + sum.grants) else cells name total count)
-  grown_if name total count true is =
-      let it = some in
-      let all : count + 1 + (sum.grants - 1) ≡ count + sum.grants = omega (arith, it) in
-      rw is (ap (cells name (total + sum.total)) all)
-  grown_if name total count false is = rw is refl
+      let last : new_cells sum.name ≡ cells sum.name sum.total sum.grants = rw (changed sum.name, nat_list_eq_equiv.refl sum.name, no_credit grants sum.name free, no_grants grants sum.name free, zero-add sum.total, zero-add sum.grants) refl in
+      let shown : map new_cells (hosts_of grants ++ sum.name ∷ []) ≡ host_list cells grants ++ cells sum.name sum.total sum.grants ∷ [] = map-append new_cells (hosts_of grants) (sum.name ∷ []) ∙ (λ i. others (hosts_of grants) free i ++ last i ∷ []) in
+      subst (λ xs. IsPermutation xs (host_list cells (grants ++ more))) shown (subst (λ hs. IsPermutation (map new_cells (hosts_of grants ++ sum.name ∷ [])) (map new_cells hs)) (sym hosts_are) (IsPermutation-map new_cells _ _ (host_comes sum.name (hosts_of grants) free)))
 
   -- a host that had one changes where it stands, and no other does
   pub sum_grown : is_among sum.name (hosts_of grants) ≡ true
       → host_list cells (grants ++ more) ≡ host_list (λ name total count. if bytes_eq name sum.name then cells name (total + sum.total) (count + sum.grants) else cells name total count) grants
-  sum_grown on = sym cells_are ∙ grown_host cells_with grants as_grant on
-      ∙ (λ i. map (λ name. grown_if name (credit_of grants name) (grants_of grants name) (bytes_eq name sum.name) (nat_list_eq_equiv.symm sum.name name) i) (hosts_of grants))
+  sum_grown on = ap (map new_cells) (hosts_are ∙ host_stays sum.name (hosts_of grants) (once grants) on) ∙ (λ i. map (λ name. changed name i) (hosts_of grants))
 
 -- ---- grants of which sums are given
 
--- so many grants without credit
-abbrev blank : List ℕ → ℕ → List Grant
-blank host zero = []
-blank host (suc k) = record { workunit = 0; n = 0; host = host; credit = 0 } ∷ blank host k
+-- so many grants to a host, the first with this credit
+abbrev shared : List ℕ → ℕ → ℕ → List Grant
+shared host credit zero = []
+shared host credit (suc k) = record { workunit = 0; n = 0; host = host; credit = credit } ∷ shared host 0 k
 
-blank_credit : (host name : List ℕ) (k : ℕ) → credit_of (blank host k) name ≡ 0
-blank_credit host name zero = refl
-blank_credit host name (suc k) = elim (cases_Bool (bytes_eq host name)) [
-  | inl on ↦ rw on (blank_credit host name k)
-  | inr off ↦ rw off (blank_credit host name k)
-]
+shared_credit : (host name : List ℕ) (credit k : ℕ) → credit_of (shared host credit (suc k)) name ≡ cond (bytes_eq host name) credit 0
+shared_credit host name credit zero = grind arith
+shared_credit host name credit (suc k) =
+    let first : List Grant = shared host credit 1 in
+    credit_both first (shared host 0 (suc k)) name ∙ ap (λ n. credit_of first name + n) (shared_credit host name 0 k) ∙ grind arith
 
-blank_count : (host name : List ℕ) (k : ℕ) → grants_of (blank host k) name ≡ (if bytes_eq host name then k else 0)
-blank_count host name zero = elim (cases_Bool (bytes_eq host name)) [ inl on ↦ rw on refl | inr off ↦ rw off refl ]
-blank_count host name (suc k) =
-    let first : Grant = record { workunit = 0; n = 0; host = host; credit = 0 } in
-    let step : grants_of (blank host (suc k)) name ≡ cond (bytes_eq host name) 1 0 + grants_of (blank host k) name = sum_by-cons (λ g. cond (is_to name g) 1 0) first (blank host k) in
-    let more = blank_count host name k in
-    step ∙ ap (λ n. cond (bytes_eq host name) 1 0 + n) more ∙ go (bytes_eq host name)
-  where
-    go : (b : Bool) → cond b 1 0 + (if b then k else 0) ≡ (if b then suc k else 0)
-    go true = omega arith
-    go false = refl
+shared_count : (host name : List ℕ) (credit k : ℕ) → grants_of (shared host credit k) name ≡ cond (bytes_eq host name) k 0
+shared_count host name credit zero = grind arith
+shared_count host name credit (suc k) =
+    let first : List Grant = shared host credit 1 in
+    grants_both first (shared host 0 k) name ∙ ap (λ n. grants_of first name + n) (shared_count host name 0 k) ∙ grind arith
 
--- one with all the credit of a sum, and others without
 abbrev pub spread : HostSum → List Grant
-spread sum = record { workunit = 0; n = 0; host = sum.name; credit = sum.total } ∷ blank sum.name (sum.grants - 1)
+spread sum = shared sum.name sum.total sum.grants
 
-module _ (sum : HostSum) (some : 0 < sum.grants) where
-  abbrev whole : Grant
-  whole = record { workunit = 0; n = 0; host = sum.name; credit = sum.total }
-
-  spread_total : (name : List ℕ) (b : Bool) → sum_by (λ (s : HostSum). s.total) (cond b (sum ∷ []) []) ≡ sum_by (λ (g : Grant). g.credit) (cond b (whole ∷ []) [])
-  spread_total name true = refl
-  spread_total name false = refl
-
-  spread_count : (b : Bool) → sum_by (λ (s : HostSum). s.grants) (cond b (sum ∷ []) []) ≡ cond b 1 0 + (if b then sum.grants - 1 else 0)
-  spread_count true = omega (arith, some)
-  spread_count false = refl
-
-  pub spread_sums : AreSums (sum ∷ []) (spread sum)
-  spread_sums = record {
-    total = λ name.
-        let a = credit_both (whole ∷ []) (blank sum.name (sum.grants - 1)) name in
-        let b = blank_credit sum.name name (sum.grants - 1) in
-        let c : total_of (sum ∷ []) name ≡ credit_of (whole ∷ []) name = spread_total name (bytes_eq sum.name name) in
-        omega (arith, a, b, c);
-    count = λ name.
-        let a : grants_of (spread sum) name ≡ cond (bytes_eq sum.name name) 1 0 + grants_of (blank sum.name (sum.grants - 1)) name = sum_by-cons (λ g. cond (is_to name g) 1 0) whole (blank sum.name (sum.grants - 1)) in
-        let b = blank_count sum.name name (sum.grants - 1) in
-        let c : count_of (sum ∷ []) name ≡ cond (bytes_eq sum.name name) 1 0 + (if bytes_eq sum.name name then sum.grants - 1 else 0) = spread_count (bytes_eq sum.name name) in
-        c ∙ ap (λ n. cond (bytes_eq sum.name name) 1 0 + n) (sym b) ∙ sym a;
-    some = (some, tt);
-  }
+pub spread_sums : (sum : HostSum) → 0 < sum.grants → AreSums (sum ∷ []) (spread sum)
+spread_sums sum some =
+    let all : suc (sum.grants - 1) ≡ sum.grants = omega (arith, some) in
+    record {
+      total = λ name. let one : total_of (sum ∷ []) name ≡ cond (bytes_eq sum.name name) sum.total 0 = grind arith in one ∙ sym (subst (λ k. credit_of (shared sum.name sum.total k) name ≡ cond (bytes_eq sum.name name) sum.total 0) all (shared_credit sum.name name sum.total (sum.grants - 1)));
+      count = λ name. let one : count_of (sum ∷ []) name ≡ cond (bytes_eq sum.name name) sum.grants 0 = grind arith in one ∙ sym (shared_count sum.name name sum.total sum.grants);
+      some = (some, tt);
+    }
 
 abbrev pub AreCounted : List HostSum → Type 0
 AreCounted sums = AllByRecursion (λ (s : HostSum). 0 < s.grants) sums

@@ -1,9 +1,9 @@
 -- What is loaded of a project is what the world has, step by step.
 use Rattle.wu_store.proofs.AskLemmas.{reads_then}
-use Rattle.wu_schema.proofs.ReadingLemmas.{read_as}
+use Rattle.wu_schema.proofs.ReadingLemmas.{read_as, not_ok, same_verdicts}
 use Rattle.wu_schema.proofs.Words.{AllByRecursion, Bool, Err, Fault, Ghosts, IsOrWantsMemory, Held, IfErr, IfOk, Import, ImportKind, Instance, List, None, NotAProject, Ok, Option, Result, Row, Some, Refines, State, Workunit, World, [], ap, arith, cases_Bool, filter, find, if◌then◌else◌, inl, inr, instance_row, is_import, length, length-map, map, map-append, number, option_map, refl, slice_get, state, subst, sym, take, verdict_digits, workunit_row, ℕ, ◌++◌, ◌+◌, ◌-◌, ◌<◌, ◌==◌, ◌∙◌, ◌∷◌, ◌≡◌, ◌≢◌, ◌≤◌}
 use Rattle.std.specs.Prelude.{All, IfSome, MatchResult, cond, false, get_or, true}
-use Rattle.wu_core.specs.Storable.{IsClass}
+use Rattle.wu_core.specs.Storable.{IsClass, AreStoredInstances, HasItsInstances, IsNextNumber, IsStoredInstance, IsStorable, IsStoredWorkunit, bare}
 use Rattle.std.specs.Option.{option_map_or}
 use Rattle.sqlite_rules.proofs.ListLemmas.{has_found}
 use Rattle.wu_schema.proofs.QuietLemmas.{same_some}
@@ -22,9 +22,7 @@ use Rattle.wu_store.specs.Classes.{class_numbered, LoadsClass}
 use Rattle.wu_store.specs.Loading.{classless, FindsClassless, IsWholeIfThere, Asks, Finds, FindsIfThere, FindsInstances, LoadsInstances, LoadsImport, IsEarlier, IsLoadable, IsLoadableIfThere, IsReadOnly, IsRowIfThere, IsRowOfPresent, IsStoreFault, instances_at}
 pub use Rattle.wu_store.proofs.AskLemmas.{never_refused}
 use Rattle.wu_schema.specs.Reading.{IsStoredImport, stored_import_row}
-use Rattle.wu_core.specs.Storable.{AreStoredInstances, HasItsInstances, IsNextNumber, IsStoredInstance, IsStorable, IsStoredWorkunit, bare}
 use Rattle.wu_schema.specs.declared.rows.StoredImport.{StoredImport}
-use Rattle.wu_schema.proofs.ReadingLemmas.{not_ok, same_verdicts}
 use Rattle.wu_store.proofs.PlacedLemmas.{Rises, world_rises}
 use Rattle.wu_store.proofs.SameWorld.{only_one, same_instances, same_workunit}
 

@@ -1,6 +1,6 @@
 -- A workunit at its place in order of number, and its instances beside those of the others.
 use Rattle.wu_schema.proofs.Words.{AllByRecursion, Bool, None, Database, Equal, Greater, HoldsAll, Instance, Int, IsAscending, IsPermutation, IsPermutation-refl, IsPermutation-sym, IsPermutation-trans, IsShaped-put_row, IsTable, Less, List, ListsAll, Ordering, PutsOne, Row, Refines, Workunit, World, [], all_has, ap, arith, cases_Bool, drop, enumerate_from, eq-eqb, eqb-true, false, filter, flat_map, if◌then◌else◌, inl, inr, instance_cells, instances_of, is_eq, is_taken, length, list_any, map, map-append, nat_tests, next_rowid, not, pos, put_row, refl, rowid, some_has, stored_workunit, subst, sym, true, value_cmp, ℕ, ◌++◌, ◌+◌, ◌<◌, ◌==◌, ◌||◌, ◌∙◌, ◌∷◌, ◌≡◌, find, take, get_or, Some, option_map, ne_eqb, ◌≢◌, Null, Schema, number, stored_class}
-use Rattle.wu_store.specs.Changes.{HasInstances, with_instance, with_placed, without_workunit, AddsInstance}
+use Rattle.wu_store.specs.Changes.{HasInstances, with_instance, with_placed, without_workunit, AddsInstance, HasNumber, LacksNumber, placed, with_replaced, with_workunit, and_instance}
 use Rattle.std.proofs.Common.{append_assoc, length-take-le}
 use Rattle.std.proofs.lemmas.List.{take_more}
 use Rattle.std.proofs.lemmas.List.Elements.{All-from_recursion}
@@ -8,7 +8,6 @@ use Rattle.std.proofs.lemmas.List.Kept.{AllPairs-cons}
 use Rattle.std.specs.List.{AllPairs}
 use Rattle.std.specs.Ordering.{nat_cmp, match_ordering}
 use Rattle.std.specs.Cmp.{nat_cmp_is}
-use Rattle.wu_store.specs.Changes.{HasNumber, LacksNumber, placed, with_replaced, with_workunit, and_instance}
 use Rattle.wu_core.specs.Storable.{IsAbove}
 use Rattle.std.proofs.lemmas.List.Sorted.{IsPermutation-append_comm, IsPermutation-append_left, IsPermutation-append_right}
 use Rattle.wu_store.proofs.EqualLemmas.{number_tied}

@@ -1,19 +1,19 @@
 -- What the statements that change a project do to the queue.
-use Rattle.wu_schema.proofs.Words.{archived_cells, import_cells, instance_cells, workunit_row, Archived, Binary, Bool, Executes, Import, Instance, Int, List, Null, Ok, PutsOne, Refines, State, Workunit, World, [], cast_row, codes, column, equal, false, if◌then◌else◌, map, number, pos, refl, sym, true, value_rows, ℕ, ◌==◌, ◌∷◌, ◌≡◌}
+use Rattle.wu_schema.proofs.Words.{Binary, Bool, Executes, Int, List, Null, Ok, PutsOne, Refines, State, World, [], cast_row, codes, column, equal, false, if◌then◌else◌, map, number, pos, refl, sym, true, value_rows, ℕ, ◌==◌, ◌∷◌, ◌≡◌}
 use Rattle.wu_core.specs.declared.marks.Marks.{Marks}
 use Rattle.wu_schema.specs.Queue.{HasQueue}
 use Rattle.wu_schema.specs.Stored.{flag, marks_cells, stored_marks}
 use Rattle.wu_schema.specs.Tables.{queue_at}
 use Rattle.wu_schema.proofs.InsertEffect.{cast_null, puts_one}
-use Rattle.wu_schema.proofs.Parts.{Project, Workunits, Instances, Archive, Imports}
-use Rattle.wu_schema.proofs.QueueLemmas.{queue_apart, queue_beside, queue_calm, queue_child, queue_has, queue_listed, queue_still, world_beside}
+use Rattle.wu_schema.proofs.Parts.{Project}
+use Rattle.wu_schema.proofs.QueueLemmas.{queue_apart, queue_calm, queue_child, queue_has, queue_listed, queue_still, world_beside}
 use Rattle.wu_schema.proofs.StandsLemmas.{lists_left, lists_still}
 use Rattle.wu_store.specs.Queues.{with_marks, without_marks}
-use Rattle.wu_store.proofs.ChangeLemmas.{cast_number, cast_number_or_null, put_archived, put_import, put_instance, put_workunit}
+use Rattle.wu_store.proofs.ChangeLemmas.{cast_number, cast_number_or_null}
 use Rattle.wu_store.proofs.DeleteEffect.{children_go, cuts}
 use Rattle.wu_store.proofs.DeleteTexts.{delete_text}
 use Rattle.wu_store.proofs.EqualLemmas.{number_equal}
-use Rattle.wu_store.proofs.InsertTexts.{archived_put, import_put, instance_put, queue_put, queue_fits, workunit_put}
+use Rattle.wu_store.proofs.InsertTexts.{queue_put, queue_fits}
 use Rattle.wu_store.proofs.KeyedLemmas.{lists_at_place}
 use Rattle.wu_schema.proofs.SetTexts.{SetBy}
 use Rattle.wu_store.proofs.ProjectEffect.{SetsProject, updates_project}
@@ -40,18 +40,6 @@ module _ (old new : State) (world : World) (s : Refines old.now world) (marked :
     leaves_world = world_beside old.now world s marked q new.now (stored_marks (n, m)) put_marks
 
   -- ---- what the other statements leave of the queue
-
-  pub workunit_leaves : (w : Workunit) (count : ℕ) → Executes workunit_put.text (workunit_row w) old new (Ok count) → HasQueue new.now marked
-  workunit_leaves w count ran = queue_beside old.now world s marked q new.now Workunits tt _ (put_workunit old new world s w count ran)
-
-  pub instance_leaves : (number n : ℕ) (i : Instance) (count : ℕ) → Executes instance_put.text (instance_cells number n i) old new (Ok count) → HasQueue new.now marked
-  instance_leaves number n i count ran = queue_beside old.now world s marked q new.now Instances tt _ (put_instance old new world s number n i count ran)
-
-  pub archived_leaves : (place : ℕ) (a : Archived) (count : ℕ) → Executes archived_put.text (number place ∷ archived_cells a) old new (Ok count) → HasQueue new.now marked
-  archived_leaves place a count ran = queue_beside old.now world s marked q new.now Archive tt _ (put_archived old new world s place a count ran)
-
-  pub import_leaves : (import : Import) (count : ℕ) → Executes import_put.text (import_cells import) old new (Ok count) → HasQueue new.now marked
-  import_leaves import count ran = queue_beside old.now world s marked q new.now Imports tt _ (put_import old new world s import count ran)
 
   module _ (set : SetBy) (fits : SetsProject set) where
     pub project_leaves : (n count : ℕ) → Executes set.text (number n ∷ []) old new (Ok count) → HasQueue new.now marked

@@ -1,5 +1,5 @@
 -- Two worlds for which one database stands are one world, but for the order of their imports.
-use Rattle.wu_schema.proofs.Words.{Archived, Blob, Database, Grant, Has, HasNamed, HoldsAll, Import, ImportKind, Instance, Int, IsPermutation, IsPermutation-filter, IsPermutation-map, IsPermutation-sym, IsPermutation-trans, List, None, Option, Output, Row, Some, Refines, Table, Text, Value, Workunit, World, [], all_from, all_has, ap, append-nil, arith, column, drop, enumerate_from, eq-eqb, false, filter, filter_none, flat_map, if◌then◌else◌, import_cells, import_kind_code, inl, inr, instance_row, instances_of, map, ne_eqb, Null, number_or_null, on_total, pos, refl, slice_get, stored_archived, stored_grant, stored_project, stored_workunit, subst, sym, text_or_null, true, value_cmp_total, verdict_digits, workunit_row, ℕ, ◌+◌, ◌-◌, ◌<◌, ◌==◌, ◌∙◌, ◌∷◌, ◌≡◌, AllByRecursion, IsAscending, Less, Ordering, class_cells, class_row, get_or, stored_class}
+use Rattle.wu_schema.proofs.Words.{Archived, archived_cells, Blob, Database, Grant, Has, HasNamed, HoldsAll, Import, ImportKind, Instance, Int, IsPermutation, IsPermutation-filter, IsPermutation-map, IsPermutation-sym, IsPermutation-trans, List, None, Option, Output, Row, Some, Refines, Table, Text, Value, Workunit, World, [], all_from, all_has, ap, append-nil, arith, column, drop, enumerate_from, eq-eqb, false, filter, filter_none, flat_map, if◌then◌else◌, import_cells, import_kind_code, inl, inr, instance_row, instances_of, map, ne_eqb, Null, number_or_null, on_total, pos, refl, slice_get, stored_archived, stored_grant, stored_project, stored_workunit, subst, sym, text_or_null, true, value_cmp_total, verdict_digits, workunit_row, ℕ, ◌+◌, ◌-◌, ◌<◌, ◌==◌, ◌∙◌, ◌∷◌, ◌≡◌, AllByRecursion, IsAscending, Less, Ordering, class_cells, class_row, get_or, stored_class}
 use Rattle.wu_core.specs.declared.mask.ErrorMask.{ErrorMask}
 use Rattle.wu_core.specs.declared.states.ServerState.{ServerState}
 use Rattle.wu_core.specs.declared.states.ServerState.TheVariants as server
@@ -30,6 +30,10 @@ use Rattle.wu_schema.proofs.Parts.{classed_or_not}
 use Rattle.wu_store.proofs.PlacedLemmas.{Rises, world_rises}
 
 -- ---- what was stored is read back
+
+-- two things that are stored alike are one, where each is read back
+pub same_by : {X C : Type 0} (stored : X → C) (read : C → X) → ((x : X) → read (stored x) ≡ x) → (a b : X) → stored a ≡ stored b → a ≡ b
+same_by stored read again a b is = sym (again a) ∙ ap read is ∙ again b
 
 abbrev pub read_number : Value → ℕ
 read_number (Int (pos n)) = n
@@ -84,17 +88,17 @@ validate_again : (s : ValidateState) → validate_of (validate_state_code s) ≡
 validate_again validate.Init = refl
 validate_again _ = refl
 
-abbrev assimilate_of : ℕ → Assimilate
+abbrev pub assimilate_of : ℕ → Assimilate
 assimilate_of n = if n == 0 then assimilate.Init else if n == 1 then assimilate.Ready else assimilate.Done
 
-assimilate_again : (s : Assimilate) → assimilate_of (assimilate_code s) ≡ s
+pub assimilate_again : (s : Assimilate) → assimilate_of (assimilate_code s) ≡ s
 assimilate_again assimilate.Init = refl
 assimilate_again _ = refl
 
-abbrev delete_of : ℕ → FileDelete
+abbrev pub delete_of : ℕ → FileDelete
 delete_of n = if n == 0 then file_delete.Init else if n == 1 then file_delete.Ready else if n == 2 then file_delete.Done else file_delete.Error
 
-delete_again : (s : FileDelete) → delete_of (file_delete_code s) ≡ s
+pub delete_again : (s : FileDelete) → delete_of (file_delete_code s) ≡ s
 delete_again file_delete.Init = refl
 delete_again _ = refl
 
@@ -152,20 +156,23 @@ restored_from stored read again k (x ∷ xs) = λ i. again (k, x) i ∷ restored
 abbrev read_grant : Row → Grant
 read_grant r = record { workunit = read_number (column r 2); n = read_number (column r 3); host = read_text (column r 4); credit = read_number (column r 5) }
 
-abbrev read_archived : Row → Archived
+abbrev pub read_archived : Row → Archived
 read_archived r = record {
-  number = read_number (column r 2);
-  name = read_text (column r 3);
-  error_mask = flags_of (read_number (column r 4));
-  canonical = read_maybe (column r 5);
-  output = read_blob (column r 6);
-  done_at = read_number (column r 7);
+  number = read_number (column r 0);
+  name = read_text (column r 1);
+  error_mask = flags_of (read_number (column r 2));
+  canonical = read_maybe (column r 3);
+  output = read_blob (column r 4);
+  done_at = read_number (column r 5);
 }
 
-archive_again : (p : ℕ × Archived) → read_archived (stored_archived p) ≡ p.1
-archive_again p = λ i. record p.1 { error_mask = mask_again p.1.error_mask i; canonical = maybe_again p.1.canonical i }
+pub archived_again : (a : Archived) → read_archived (archived_cells a) ≡ a
+archived_again a = λ i. record a { error_mask = mask_again a.error_mask i; canonical = maybe_again a.canonical i }
 
-abbrev read_import : Row → Import
+abbrev read_stored : Row → Archived
+read_stored r = read_archived (drop 2 r)
+
+abbrev pub read_import : Row → Import
 read_import r = record {
   kind = kind_of (read_number (column r 0));
   name = read_text (column r 1);
@@ -175,7 +182,7 @@ read_import r = record {
   verdicts = map (λ d. d - 48) (read_text (column r 5));
 }
 
-import_again : (m : Import) → read_import (import_cells m) ≡ m
+pub import_again : (m : Import) → read_import (import_cells m) ≡ m
 import_again m = λ i. record m { kind = kind_again m.kind i; verdicts = digits_again m.verdicts i }
 
 abbrev read_instance : Row → Instance
@@ -205,7 +212,7 @@ instance_again m = λ i. record m {
 
 -- two lists of instances that have the same rows are one
 pub same_instances : (a b : List Instance) → map instance_row a ≡ map instance_row b → a ≡ b
-same_instances a b rows = sym (restored instance_row read_instance instance_again a) ∙ ap (map read_instance) rows ∙ restored instance_row read_instance instance_again b
+same_instances = same_by (map instance_row) (map read_instance) (restored instance_row read_instance instance_again)
 
 -- two workunits that have one row are one, but for their instances and their class
 pub same_workunit : (v w : Workunit) → workunit_row v ≡ workunit_row w → v ≡ record w { instances = v.instances; class = v.class }
@@ -326,7 +333,7 @@ one_world db a b s t =
     record {
       workunits = same_works a.workunits b.workunits works classes.1 (brought a.workunits b.workunits (world_rises db a s) (world_rises db b t) instances);
       grants = sym (restored_from stored_grant read_grant (λ p. refl) 1 a.grants) ∙ ap (map read_grant) grants ∙ restored_from stored_grant read_grant (λ p. refl) 1 b.grants;
-      archived = sym (restored_from stored_archived read_archived archive_again 1 a.archived) ∙ ap (map read_archived) archived ∙ restored_from stored_archived read_archived archive_again 1 b.archived;
+      archived = sym (restored_from stored_archived read_stored (λ p. archived_again p.1) 1 a.archived) ∙ ap (map read_stored) archived ∙ restored_from stored_archived read_stored (λ p. archived_again p.1) 1 b.archived;
       imports = subst (λ xs. IsPermutation xs b.imports) (restored import_cells read_import import_again a.imports) (subst (IsPermutation (map read_import (map import_cells a.imports))) (restored import_cells read_import import_again b.imports) imports);
       classes = classes.0;
       next_number = cc;

@@ -1,14 +1,15 @@
 -- What an UPDATE of the row of a key does, over any schema.
-use Rattle.wu_schema.proofs.Words.{Bool, Executes, Has, HasTable, Int, IsPermutation, IsShaped, IsShaped-filter, IsShaped-put_row, List, ListsAll, Ok, Row, State, Table, Term, Update, [], all_from, ap, cases_Bool, cast_row, eval_all, false, filter, filter_none, has_rowid, if◌then◌else◌, inl, inr, is_int, length_permutation, list_any, map, mode_of, number, one_permutation, pos, put_row, refl, rowid, runs_as, some_has, statement_of, subst, sym, true, understood, without_rowid, ℕ, ℤ, ◌==◌, ◌∙◌, ◌∷◌, ◌≡◌}
+use Rattle.wu_schema.proofs.Words.{Bool, Executes, Has, HasTable, HoldsAll, Int, IsPermutation, IsPermutation-map, IsShaped, IsShaped-filter, IsShaped-put_row, List, ListsAll, Ok, Row, State, Table, Term, Update, [], all_from, ap, cases_Bool, cast_row, drop, eval_all, false, false_from_ne_true, filter, filter_none, has_rowid, if◌then◌else◌, inl, inr, is_int, length_permutation, list_any, map, map-map, mode_of, number, one_permutation, pos, put_row, refl, row_at_is, rowid, runs_as, some_has, statement_of, subst, sym, true, understood, without_rowid, ℕ, ℤ, ◌==◌, ◌∙◌, ◌∷◌, ◌≡◌}
 use Rattle.sqlite_trees.specs.declared.store.Shape.TheVariants as shape
 use Rattle.wu_schema.proofs.AnswerLemmas.{meeting, showing}
 use Rattle.wu_schema.proofs.Parts.{either_false}
 use Rattle.wu_schema.proofs.QueryLemmas.{alone, plain_query}
-use Rattle.wu_schema.proofs.RowLemmas.{filter_same, no_rows, one_test}
+use Rattle.wu_schema.proofs.RowLemmas.{filter_same, map_same, no_rows, one_test}
 use Rattle.wu_schema.proofs.SetTexts.{SetBy, SetFits, set_compiles, set_tests}
 use Rattle.wu_store.proofs.DeleteEffect.{has_number, only_row, own_number}
 use Rattle.wu_store.proofs.DeleteTexts.{by_number}
 use Rattle.wu_store.proofs.EqualLemmas.{number_tied}
+use Rattle.wu_store.proofs.FallLemmas.{has_own}
 use Rattle.wu_store.proofs.InPlaceLemmas.{in_place, replaced}
 use Rattle.wu_store.proofs.UpdateEffect.{Sets, resets, update_sets}
 
@@ -48,6 +49,29 @@ module _ (n : ℤ) (row : Row) (rows : List Row) (good : IsShaped shape.Table ro
         subst (IsShaped shape.Table) (in_place n row it.0 it.1.1 key rows good.0 it.1.0) (IsShaped-put_row row (without_rowid n rows) (ap (λ v. is_int v) key) (IsShaped-filter shape.Table _ rows good))
     | inr none ↦ subst (IsShaped shape.Table) (sym (none_replaced n row rows none)) good
   ]
+
+  -- where it is the only row whose cells pass a test, those cells become the new ones, and no others
+  module _ (mine : Row → Bool) (x : Row) (has : Has rows x) (own : rowid x ≡ Int n) (on : mine (drop 1 x) ≡ true) (only : (r : Row) → Has rows r → mine (drop 1 r) ≡ true → r ≡ x) where
+    abbrev set_cells : Row → Row
+    set_cells c = if mine c then drop 1 row else c
+
+    each : (r : Row) → Has rows r → drop 1 (if has_rowid n r then row else r) ≡ set_cells (drop 1 r)
+    each r there = elim (cases_Bool (has_rowid n r)) [
+      | inl tied ↦
+          let one : x ≡ r = sym (row_at_is rows n x good.0 has (has_own x n own)) ∙ row_at_is rows n r good.0 there tied in
+          let found : mine (drop 1 r) ≡ true = ap (λ s. mine (drop 1 s)) (sym one) ∙ on in
+          rw (tied, found) refl
+      | inr off ↦
+          let other : mine (drop 1 r) ≡ false = false_from_ne_true _ (λ h. let e = sym off ∙ ap (has_rowid n) (only r there h) ∙ has_own x n own in cc) in
+          rw (off, other) refl
+    ]
+
+    pub holds_set : (cells : List Row) → HoldsAll rows cells → HoldsAll (replaced n row rows) (map set_cells cells)
+    holds_set cells h = record {
+      shaped = replaced_shaped;
+      same = subst (IsPermutation (map set_cells cells)) (sym (map-map (drop 1) (λ r. if has_rowid n r then row else r) rows ∙ map_same _ (λ r. set_cells (drop 1 r)) rows each ∙ sym (map-map set_cells (drop 1) rows)))
+          (IsPermutation-map set_cells cells (map (drop 1) rows) h.same);
+    }
 
   module _ (table : Table) (made : List Term) (more source : Row) (kept : cast_row table source ≡ row) (shows : (x : Row) → rowid x ≡ Int n → eval_all made ((Int n ∷ more) ∷ x ∷ []) ≡ Int n ∷ source) (found : List Row) (shown : IsPermutation (showing made (Int n ∷ more) (meeting by_number (Int n ∷ more) rows)) found) where
     shown_of : (xs : List Row) → filter (has_rowid n) rows ≡ xs → IsPermutation (showing made (Int n ∷ more) xs) found

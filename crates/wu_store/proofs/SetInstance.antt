@@ -1,5 +1,5 @@
 -- What the statement that sets an instance does to the world and to the queue.
-use Rattle.wu_schema.proofs.Words.{Binary, Bool, Executes, Has, HoldsAll, Instance, Int, IsPermutation, IsPermutation-filter, IsPermutation-map, IsTable, IsTrue, List, ListsAll, Ok, Refines, Row, Some, State, Term, Workunit, World, [], all_has, ap, arith, cases_Bool, cast_row, codes, col, column, drop, enumerate_from, eq-eqb, eqb-true, equal, everything, false, filter, filter-map, find, flat_map, has_filtered, has_rowid, if◌then◌else◌, inl, inr, instance_cells, instance_row, instances_of, is_int, length, map, map-append, map-map, nat_tests, ne_eqb, number, one_permutation, put_row, refl, result_at, row_at_is, rowid, stored_class, stored_workunit, subst, suc, sym, true, without_rowid, zero, ℕ, ℤ, ◌&&◌, ◌++◌, ◌+◌, ◌<◌, ◌==◌, ◌∙◌, ◌∷◌, ◌≡◌, ◌≤◌}
+use Rattle.wu_schema.proofs.Words.{Binary, Bool, Executes, Has, HoldsAll, Instance, Int, IsPermutation, IsPermutation-filter, IsTable, IsTrue, List, ListsAll, Ok, Refines, Row, Some, State, Term, Workunit, World, [], all_has, ap, arith, cases_Bool, cast_row, codes, col, column, drop, enumerate_from, eq-eqb, eqb-true, equal, everything, false, filter, filter-map, find, flat_map, has_filtered, if◌then◌else◌, inl, inr, instance_cells, instance_row, instances_of, is_int, length, map, map-append, nat_tests, ne_eqb, number, one_permutation, put_row, refl, result_at, rowid, stored_class, stored_workunit, subst, suc, sym, true, without_rowid, zero, ℕ, ℤ, ◌&&◌, ◌++◌, ◌+◌, ◌<◌, ◌==◌, ◌∙◌, ◌∷◌, ◌≡◌, ◌≤◌}
 use Rattle.std.specs.Prelude.{slice_set}
 use Rattle.sqlite_sql.specs.declared.ops.CompareOp.TheVariants as compare
 use Rattle.wu_core.specs.declared.marks.Marks.{Marks}
@@ -11,7 +11,7 @@ use Rattle.wu_schema.proofs.InsertEffect.{cast_int}
 use Rattle.wu_schema.proofs.Parts.{Holds, Instances, Part, WorkClasses, Workunits, apart, calm_from, frame_one, is_part, keeps_calm, parts_there}
 use Rattle.wu_schema.proofs.QueueLemmas.{queue_apart, queue_calm, queue_listed, queue_still}
 use Rattle.wu_schema.proofs.QuietLemmas.{same_some}
-use Rattle.wu_schema.proofs.RowLemmas.{filter_same, int_value, map_same, one_test}
+use Rattle.wu_schema.proofs.RowLemmas.{filter_same, int_value, one_test}
 use Rattle.wu_schema.proofs.SetTexts.{SetBy, SetFits}
 use Rattle.wu_schema.proofs.StandsLemmas.{holds_still, is_there}
 use Rattle.wu_store.specs.Answers.{numbered}
@@ -20,12 +20,11 @@ use Rattle.sqlite_rules.proofs.ListLemmas.{has_kept}
 use Rattle.wu_store.proofs.KeyedLemmas.{map_stays}
 use Rattle.wu_store.proofs.ChangeLemmas.{cast_number, cast_number_or_null, cast_text_or_null}
 use Rattle.wu_store.proofs.EqualLemmas.{number_equal}
-use Rattle.wu_store.proofs.FallLemmas.{has_own}
 use Rattle.wu_store.proofs.InPlaceLemmas.{in_place, replaced}
 use Rattle.wu_store.proofs.InstanceAnswers.{listed_from}
 use Rattle.wu_store.proofs.InstanceLemmas.{fits, instances_left}
 use Rattle.wu_store.proofs.ReadAnswers.{find_only, once_numbered}
-use Rattle.wu_store.proofs.SetEffect.{replaced_shaped, sets_by}
+use Rattle.wu_store.proofs.SetEffect.{holds_set, sets_by}
 use Rattle.wu_store.proofs.UpdateEffect.{Sets, resets}
 use Rattle.wu_store.specs.declared.texts.TheConstants.{UPDATE_RESULT}
 
@@ -225,35 +224,15 @@ module _ (old new : State) (world : World) (s : Refines old.now world) (w n : �
       ∙ ap (resets (result_at tree) rows) found_is ∙ ap (λ r. put_row r (without_rowid id rows)) (instance_kept tree id w n i) ∙ in_place id new_row x id_is.1 refl rows s.rows.instances.shaped.0 has_x.0
 
   -- the row is that of the key, and no other
-  each : (r : Row) → Has rows r → drop 1 (if has_rowid id r then new_row else r) ≡ set_cells w n i (drop 1 r)
-  each r there = go (has_rowid id r) refl
-    where
-      own : has_rowid id x ≡ true
-      own = has_own x id id_is.1
+  only : (r : Row) → Has rows r → mine r ≡ true → r ≡ x
+  only r there on = elim (subst (λ rs. Has rs r) one_row.1 (has_kept mine rows r there on)) [ inl one ↦ one | inr none ↦ absurd none ]
 
-      go : (b : Bool) → has_rowid id r ≡ b → drop 1 (if b then new_row else r) ≡ set_cells w n i (drop 1 r)
-      go true on =
-          let one : x ≡ r = sym (row_at_is rows id x s.rows.instances.shaped.0 has_x.0 own) ∙ row_at_is rows id r s.rows.instances.shaped.0 there on in
-          let found : mine r ≡ true = ap mine (sym one) ∙ has_x.1 in
-          rw found refl
-      go false off = elim (cases_Bool (mine r)) [
-        | inl on ↦
-            let among : Has (x ∷ []) r = subst (λ rs. Has rs r) one_row.1 (has_kept mine rows r there on) in
-            absurd (elim among [ inl one ↦ (let e = sym off ∙ ap (has_rowid id) one ∙ own in cc) | inr none ↦ none ])
-        | inr other ↦ rw other refl
-      ]
-
-  holds_set : HoldsAll (replaced id new_row rows) (flat_map instances_of (map (and_set w n i) world.workunits))
-  holds_set = record {
-    shaped = replaced_shaped id new_row rows s.rows.instances.shaped refl;
-    same = subst (IsPermutation (flat_map instances_of (map (and_set w n i) world.workunits)))
-        (sym (map-map (drop 1) (λ r. if has_rowid id r then new_row else r) rows ∙ map_same _ (λ r. set_cells w n i (drop 1 r)) rows each ∙ sym (map-map (set_cells w n i) (drop 1) rows)))
-        (subst (λ cs. IsPermutation cs (map (set_cells w n i) (map (drop 1) rows))) (all_set w n i world.workunits) (IsPermutation-map (set_cells w n i) cells (map (drop 1) rows) s.rows.instances.same));
-  }
+  holds_all : HoldsAll (replaced id new_row rows) (flat_map instances_of (map (and_set w n i) world.workunits))
+  holds_all = subst (HoldsAll (replaced id new_row rows)) (all_set w n i world.workunits) (holds_set id new_row rows s.rows.instances.shaped refl (is_mine w n) x has_x.0 id_is.1 has_x.1 only cells s.rows.instances)
 
   pub sets_instance : Refines new.now (with_set w n i world)
   sets_instance = frame_one old.now new.now world (with_set w n i world) s Instances tt instance_sets.schema refl
-      (keeps_calm world.version old.now s.trees (parts_there old.now world s) new.now Instances tt refl instance_sets.others) carry (holds_still rows_are holds_set) instance_sets.sound
+      (keeps_calm world.version old.now s.trees (parts_there old.now world s) new.now Instances tt refl instance_sets.others) carry (holds_still rows_are holds_all) instance_sets.sound
     where
       carry : (p : Part) → is_part Instances p ≡ false → (rs : List Row) → Holds p rs world → Holds p rs (with_set w n i world)
       carry Instances off rs h = absurd (cc)

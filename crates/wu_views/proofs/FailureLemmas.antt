@@ -23,7 +23,8 @@ use Rattle.wu_rules.specs.Instances.{is_error, is_error_outcome}
 use Rattle.wu_rules.specs.Reporting.{is_no_reply}
 use Rattle.wu_rules.specs.Sending.{is_of}
 use Rattle.wu_views.specs.Counting.{all_instances}
-use Rattle.wu_views.specs.Failures.{all_failures, by_failures, failed, failed_host, failures_of, is_unreplied, most_hosts, with_failures, with_host_failures, with_more, with_outcome, worst_first, Rise}
+use Rattle.wu_views.specs.Failures.{all_failures, by_failures, failed, failed_host, failures_of, is_unreplied, with_failures, with_host_failures, with_more, with_outcome, worst_first, Rise}
+use Rattle.wu_views.specs.declared.failures.TheConstants.{MOST_HOSTS}
 use Rattle.wu_views.specs.Lines.{result_line_of, result_lines, result_lines_of}
 use Rattle.wu_views.specs.Walking.{TakesAll}
 use Rattle.wu_views.specs.declared.failures.Failures.{Failures}
@@ -297,8 +298,8 @@ first_with (suc n) (one ∷ hosts) it = go (by_failures it one) (first_with n ho
     go Equal rest = ap (λ hs. it ∷ hs) (again n)
     go Greater rest = ap (λ hs. one ∷ hs) rest
 
-pub worst_more : (hosts : List HostFailures) (it : HostFailures) → take most_hosts (with_host_failures (take most_hosts (worst_first hosts)) it) ≡ take most_hosts (worst_first (hosts ++ it ∷ []))
-worst_more hosts it = first_with most_hosts (worst_first hosts) it ∙ ap (take most_hosts) (sym (fold_push with_host_failures [] hosts it))
+pub worst_more : (hosts : List HostFailures) (it : HostFailures) → take MOST_HOSTS (with_host_failures (take MOST_HOSTS (worst_first hosts)) it) ≡ take MOST_HOSTS (worst_first (hosts ++ it ∷ []))
+worst_more hosts it = first_with MOST_HOSTS (worst_first hosts) it ∙ ap (take MOST_HOSTS) (sym (fold_push with_host_failures [] hosts it))
 
 -- the place of a host is behind all that come before it
 pub placed_at : (hosts : List HostFailures) (k : ℕ) (it : HostFailures) → k ≤ length hosts → ((n : ℕ) (d : HostFailures) → n < k → by_failures it (get_or hosts n d) ≡ Greater) → ((d : HostFailures) → k < length hosts → is_gt (by_failures it (get_or hosts k d)) ≡ false) → insert hosts k it ≡ with_host_failures hosts it

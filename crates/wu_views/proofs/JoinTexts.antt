@@ -1,6 +1,6 @@
 -- The SELECTs of the workunits with their classes, and of the instances with the names of their workunits: their texts, and
 -- what they compile to over any schema that has their tables.
-use Rattle.wu_schema.proofs.Words.{Binary, Carried, Context, Error, Expr, Expr-F, FailsToQuery, HasTable, IsFailure, List, Name, None, Ok, Parsed, Query, Refines, Schema, Some, Sort, State, Term, World, [], accepts_program, arith, codes, col, declared, everything, false, fault_of, first, map, nothing, op2, pipeline, refl, result_at, roll-Expr, true, workunit_at, workunit_class_at, ℕ, ◌++◌, ◌∷◌, ◌≡◌}
+use Rattle.wu_schema.proofs.Words.{Binary, Carried, Context, Database, Expr, Expr-F, HasTable, List, None, Ok, Parsed, Query, Refines, Schema, Some, Sort, State, Term, World, [], arith, codes, col, declared, everything, false, first, map, nothing, op2, pipeline, refl, result_at, roll-Expr, true, workunit_at, workunit_class_at, ℕ, ◌++◌, ◌∷◌, ◌≡◌}
 use Rattle.sqlite_value.specs.declared.keys.Key.{Key}
 use Rattle.sqlite_sql.specs.Term.{op1}
 use Rattle.sqlite_sql.specs.declared.ops.BinaryOp.TheVariants as by
@@ -15,14 +15,15 @@ use Rattle.sqlite_resolve.specs.Body.{tests}
 use Rattle.sqlite_resolve.specs.Expr.{lower}
 use Rattle.sqlite_resolve.specs.Order.{sorts}
 use Rattle.wu_schema.proofs.ExprLemmas.{column, lower_step, so_far}
-use Rattle.wu_schema.proofs.Parts.{Instances, WorkClasses, Workunits, parts_there}
+use Rattle.wu_schema.proofs.Parts.{Instances, IsIn, Part, WorkClasses, Workunits, name_of, parts_there, table_in, table_of, tree_in}
+use Rattle.wu_schema.specs.Tables.{IsClassedVersion}
 use Rattle.wu_schema.proofs.QueryLemmas.{alone}
 use Rattle.wu_schema.proofs.SelectLemmas.{CompilesTo, the}
 use Rattle.wu_schema.proofs.ToldLemmas.{query_told}
 use Rattle.wu_store.specs.StandsFor.{KnowsClasses}
 use Rattle.wu_store.specs.Reads.{WithClasses}
 use Rattle.wu_store.proofs.AskLemmas.{IsQuestion}
-use Rattle.wu_views.proofs.JoinLemmas.{AskedOfTwo, FitsTwo, Item, accepts_two, cell_lowers, compiles_two, length_of, met, names_of, never_over_two, own, outputs_of, parsed_of, plain, scope_of_two, select_of, told}
+use Rattle.wu_views.proofs.JoinLemmas.{accepts_two, AskedOfTwo, cell_lowers, compiles_two, FitsTwo, Item, length_of, met, names_of, never_over_two, outputs_of, own, parsed_of, plain, query_of, scope_of_two, select_of, terms_of, told}
 pub use Rattle.wu_views.proofs.JoinLemmas.{joined_query}
 use Rattle.wu_views.specs.declared.texts.TheConstants.{LIST_RESULTS, LIST_WORKUNITS}
 
@@ -102,13 +103,10 @@ module _ (work class : ℕ) where
   abbrev two : Table
   two = workunit_class_at class
 
-  abbrev pub workunits_parsed : Parsed
+  abbrev workunits_parsed : Parsed
   workunits_parsed = parsed_of (codes "workunit") (codes "workunit_class") one two workunits_asked
 
-  abbrev pub workunits_names : List Name
-  workunits_names = names_of (codes "workunit") (codes "workunit_class") one two workunits_asked
-
-  pub workunits_read : first workunits_text ≡ Ok workunits_parsed
+  workunits_read : first workunits_text ≡ Ok workunits_parsed
   unfolding everything
   workunits_read = refl
 
@@ -148,14 +146,6 @@ module _ (work class : ℕ) where
       read = workunits_read;
     }
 
-    -- what the text compiles to
-    pub workunits_compiles : CompilesTo schema workunits_text workunits_parsed (command.Select (alone (workunits_query work class)) workunits_names)
-    workunits_compiles = compiles_two (codes "workunit") (codes "workunit_class") one two workunits_asked schema at there has has_class workunits_fit
-
-    -- its terms fit the kinds of the columns
-    pub workunits_accepts : accepts_program schema [] (workunits_query work class) [] ≡ true
-    workunits_accepts = accepts_two (codes "workunit") (codes "workunit_class") one two workunits_asked schema at there has has_class workunits_fit
-
 -- ---- instances with the names of their workunits
 
 -- the question for the instances
@@ -176,13 +166,10 @@ module _ (result work : ℕ) where
   abbrev works : Table
   works = workunit_at work
 
-  abbrev pub results_parsed : Parsed
+  abbrev results_parsed : Parsed
   results_parsed = parsed_of (codes "result") (codes "workunit") instances works results_asked
 
-  abbrev pub results_names : List Name
-  results_names = names_of (codes "result") (codes "workunit") instances works results_asked
-
-  pub results_read : first results_text ≡ Ok results_parsed
+  results_read : first results_text ≡ Ok results_parsed
   unfolding everything
   results_read = refl
 
@@ -229,61 +216,39 @@ module _ (result work : ℕ) where
       read = results_read;
     }
 
-    -- what the text compiles to
-    pub results_compiles : CompilesTo schema results_text results_parsed (command.Select (alone (results_query result work)) results_names)
-    results_compiles = compiles_two (codes "result") (codes "workunit") instances works results_asked schema at there has has_work results_fit
-
-    -- its terms fit the kinds of the columns
-    pub results_accepts : accepts_program schema [] (results_query result work) [] ≡ true
-    results_accepts = accepts_two (codes "result") (codes "workunit") instances works results_asked schema at there has has_work results_fit
-
 -- ---- over tables that stand for a world with classes
 
-module _ (old : State) (world : World) (known : KnowsClasses world) (s : Refines old.now world) where
-  -- what the text of the workunits compiles to
-  pub workunits_here : CompilesTo old.now.schema workunits_text (workunits_parsed s.trees.workunit s.trees.workunit_class) (command.Select (alone (workunits_query s.trees.workunit s.trees.workunit_class)) (workunits_names s.trees.workunit s.trees.workunit_class))
-  workunits_here =
-      let has = parts_there old.now world s Workunits tt in
-      let classes = parts_there old.now world s WorkClasses known in
-      workunits_compiles s.trees.workunit s.trees.workunit_class old.now.schema has.0 classes.0 has.1 classes.1
+-- the SELECT of two parts is a question, and what it compiles to
+pub record JoinsParts (p r : Part) (q : AskedOfTwo) : Type 1 where
+  pub question : IsQuestion q.text [] WithClasses
+  pub here : (old : State) (world : World) → KnowsClasses world → (s : Refines old.now world)
+      → CompilesTo old.now.schema q.text (parsed_of (name_of p) (name_of r) (table_of s.trees p) (table_of s.trees r) q) (command.Select (alone (query_of (name_of p) (name_of r) (table_of s.trees p) (table_of s.trees r) q)) (names_of (name_of p) (name_of r) (table_of s.trees p) (table_of s.trees r) q))
 
-  -- and that of the instances
-  pub results_here : CompilesTo old.now.schema results_text (results_parsed s.trees.result s.trees.workunit) (command.Select (alone (results_query s.trees.result s.trees.workunit)) (results_names s.trees.result s.trees.workunit))
-  results_here =
-      let has = parts_there old.now world s Instances tt in
-      let works = parts_there old.now world s Workunits tt in
-      results_compiles s.trees.result s.trees.workunit old.now.schema has.0 works.0 has.1 works.1
+-- where it fits their tables, only memory, the disk or size may fail it
+joins_parts : (p r : Part) (q : AskedOfTwo) → ((version : ℕ) → IsClassedVersion version → IsIn p version × IsIn r version) → first q.text ≡ Ok (parsed_of (name_of p) (name_of r) (table_in p 0) (table_in r 0) q)
+    → ((tree other : ℕ) (schema : Schema) (at there : ℕ) (has : HasTable schema (name_of p) at (table_in p tree)) (has_other : HasTable schema (name_of r) there (table_in r other)) → FitsTwo (name_of p) (name_of r) (table_in p tree) (table_in r other) q schema at there has has_other) → JoinsParts p r q
+joins_parts p r q are_in read fits =
+    let fit = λ (db : Database) (world : World) (known : KnowsClasses world) (s : Refines db world).
+    let are = are_in world.version known in
+    let one = parts_there db world s p are.0 in
+    let other = parts_there db world s r are.1 in
+    fits (tree_in s.trees p) (tree_in s.trees r) db.schema one.0 other.0 one.1 other.1 in
+    let here = λ (old : State) (world : World) (known : KnowsClasses world) (s : Refines old.now world). compiles_two (name_of p) (name_of r) (table_of s.trees p) (table_of s.trees r) q old.now.schema _ _ _ _ (fit old.now world known s) in
+    record {
+      question = record {
+        select = record { parsed = parsed_of (name_of p) (name_of r) (table_in p 0) (table_in r 0) q; select = select_of (name_of p) (name_of r) (table_in p 0) (table_in r 0) q; read = read; is = refl };
+        told = λ old new e h world stood unlimited.
+            let (known, s) = stood in
+            let one = table_of s.trees p in
+            let other = table_of s.trees r in
+            query_told q.text [] old new _ _ _ (here old world known s) (omega arith) refl (accepts_two (name_of p) (name_of r) one other q old.now.schema _ _ _ _ (fit old.now world known s)) (never_over_two one.tree other.tree q.tests (terms_of (name_of p) (name_of r) one other q) q.order old.now.trees []) unlimited e h;
+      };
+      here = here;
+    }
 
-  -- only memory, the disk or size may fail them
-  module _ (new : State) (e : Error) (unlimited : old.step_limit ≡ None) where
-    workunits_told : FailsToQuery workunits_text [] old new e → IsFailure (fault_of e)
-    workunits_told =
-        let has = parts_there old.now world s Workunits tt in
-        let classes = parts_there old.now world s WorkClasses known in
-        let work = s.trees.workunit in
-        let class = s.trees.workunit_class in
-        query_told workunits_text [] old new (workunits_parsed work class) (workunits_query work class) (workunits_names work class) workunits_here (omega arith) refl (workunits_accepts work class old.now.schema has.0 classes.0 has.1 classes.1)
-        (never_over_two work class workunits_tests workunits_shows workunits_order old.now.trees []) unlimited e
+-- the SELECT of the workunits, and that of the instances
+pub workunits_joined : JoinsParts Workunits WorkClasses workunits_asked
+workunits_joined = joins_parts Workunits WorkClasses workunits_asked (λ version known. (tt, known)) (workunits_read 0 0) workunits_fit
 
-    results_told : FailsToQuery results_text [] old new e → IsFailure (fault_of e)
-    results_told =
-        let has = parts_there old.now world s Instances tt in
-        let works = parts_there old.now world s Workunits tt in
-        let result = s.trees.result in
-        let work = s.trees.workunit in
-        query_told results_text [] old new (results_parsed result work) (results_query result work) (results_names result work) results_here (omega arith) refl (results_accepts result work old.now.schema has.0 works.0 has.1 works.1)
-        (never_over_two result work results_tests results_shows results_order old.now.trees []) unlimited e
-
--- the SELECT of the workunits is a question
-pub workunits_question : IsQuestion workunits_text [] WithClasses
-workunits_question = record {
-  select = record { parsed = workunits_parsed 0 0; select = select_of (codes "workunit") (codes "workunit_class") (workunit_at 0) (workunit_class_at 0) workunits_asked; read = workunits_read 0 0; is = refl };
-  told = λ old new e h world stood unlimited. workunits_told old world stood.0 stood.1 new e unlimited h;
-}
-
--- the SELECT of the instances is a question
-pub results_question : IsQuestion results_text [] WithClasses
-results_question = record {
-  select = record { parsed = results_parsed 0 0; select = select_of (codes "result") (codes "workunit") (result_at 0) (workunit_at 0) results_asked; read = results_read 0 0; is = refl };
-  told = λ old new e h world stood unlimited. results_told old world stood.0 stood.1 new e unlimited h;
-}
+pub results_joined : JoinsParts Instances Workunits results_asked
+results_joined = joins_parts Instances Workunits results_asked (λ version known. (tt, tt)) (results_read 0 0) results_fit

@@ -1,16 +1,11 @@
 -- Lines of the same row are one line.
-use Rattle.std.proofs.Common.{◌≡◌, ◌∙◌, ℕ, ◌<◌, ◌^◌, List, [], ◌∷◌, ◌++◌, length, Option, Result, Ok, Err, IsErrAnd, ap, inl, refl, subst, sym}
+use Rattle.std.proofs.Common.{◌≡◌, ◌∙◌, ℕ, ◌<◌, ◌^◌, List, [], ◌∷◌, ◌++◌, length, Result, Ok, Err, IsErrAnd, ap, inl, refl, subst, sym}
 use Rattle.std.specs.Prelude.{⊤}
 use Rattle.sqlite.specs.Order.{Row, column}
 use Rattle.sqlite.specs.declared.types.Value.TheVariants.{Blob, Text}
-use Rattle.wu_core.specs.declared.states.Assimilate.{Assimilate}
-use Rattle.wu_core.specs.declared.states.Assimilate.TheVariants as assimilate
-use Rattle.wu_core.specs.declared.states.FileDelete.{FileDelete}
-use Rattle.wu_core.specs.declared.states.FileDelete.TheVariants as file_delete
 use Rattle.wu_core.specs.declared.import.ImportKind.{ImportKind}
 use Rattle.wu_core.specs.declared.workunit.Archived.{Archived}
 use Rattle.wu_core.specs.declared.workunit.HostClass.{HostClass}
-use Rattle.wu_core.specs.declared.mask.ErrorMask.{ErrorMask}
 use Rattle.wu_core.proofs.MaskLemmas.{flags_of}
 use Rattle.wu_core.specs.Codes.{assimilate_code, file_delete_code}
 use Rattle.wu_core.specs.Mask.{error_mask_code}
@@ -23,47 +18,12 @@ use Rattle.wu_schema.specs.Restoring.{Restores}
 use Rattle.wu_schema.specs.Reading.{IsBareInstance, IsProgress, bare_instance_row, columns, kind_cell, progress_cells, verdicts_cell}
 use Rattle.wu_schema.specs.declared.rows.Progress.{Progress}
 use Rattle.wu_schema.proofs.ReadingLemmas.{is_bare, not_ok, same_verdicts, whole_row}
-use Rattle.wu_store.proofs.SameWorld.{kind_again, kind_of, mask_again, maybe_again, read_blob, read_maybe, read_number, read_text, same_instances}
+use Rattle.wu_store.proofs.SameWorld.{archived_again, assimilate_again, assimilate_of, delete_again, delete_of, kind_again, kind_of, mask_again, maybe_again, read_archived, read_maybe, read_number, read_text, same_by, same_instances}
 use Rattle.wu_views.specs.Lines.{IsInputLength, IsOutputLength, IsStoredHost, IsStoredImportLine, IsStoredLine, IsStoredResult, bare_instance_of, host_row, import_row, line_row, result_line_of, result_line_row}
 use Rattle.wu_views.specs.declared.lines.HostLine.{HostLine}
 use Rattle.wu_views.specs.declared.lines.ImportLine.{ImportLine}
 use Rattle.wu_views.specs.declared.lines.ResultLine.{ResultLine}
 use Rattle.wu_views.specs.declared.lines.WorkunitLine.{WorkunitLine}
-
-same_number : (a b : Option ℕ) → number_or_null a ≡ number_or_null b → a ≡ b
-same_number a b is = sym (maybe_again a) ∙ ap read_maybe is ∙ maybe_again b
-
-same_assimilate : (a b : Assimilate) → assimilate_code a ≡ assimilate_code b → a ≡ b
-same_assimilate assimilate.Init assimilate.Init is = refl
-same_assimilate assimilate.Init assimilate.Ready is = absurd cc
-same_assimilate assimilate.Init assimilate.Done is = absurd cc
-same_assimilate assimilate.Ready assimilate.Init is = absurd cc
-same_assimilate assimilate.Ready assimilate.Ready is = refl
-same_assimilate assimilate.Ready assimilate.Done is = absurd cc
-same_assimilate assimilate.Done assimilate.Init is = absurd cc
-same_assimilate assimilate.Done assimilate.Ready is = absurd cc
-same_assimilate assimilate.Done assimilate.Done is = refl
-
-same_file_delete : (a b : FileDelete) → file_delete_code a ≡ file_delete_code b → a ≡ b
-same_file_delete file_delete.Init file_delete.Init is = refl
-same_file_delete file_delete.Init file_delete.Ready is = absurd cc
-same_file_delete file_delete.Init file_delete.Done is = absurd cc
-same_file_delete file_delete.Init file_delete.Error is = absurd cc
-same_file_delete file_delete.Ready file_delete.Init is = absurd cc
-same_file_delete file_delete.Ready file_delete.Ready is = refl
-same_file_delete file_delete.Ready file_delete.Done is = absurd cc
-same_file_delete file_delete.Ready file_delete.Error is = absurd cc
-same_file_delete file_delete.Done file_delete.Init is = absurd cc
-same_file_delete file_delete.Done file_delete.Ready is = absurd cc
-same_file_delete file_delete.Done file_delete.Done is = refl
-same_file_delete file_delete.Done file_delete.Error is = absurd cc
-same_file_delete file_delete.Error file_delete.Init is = absurd cc
-same_file_delete file_delete.Error file_delete.Ready is = absurd cc
-same_file_delete file_delete.Error file_delete.Done is = absurd cc
-same_file_delete file_delete.Error file_delete.Error is = refl
-
-same_mask : (a b : ErrorMask) → error_mask_code a ≡ error_mask_code b → a ≡ b
-same_mask a b is = sym (mask_again a) ∙ ap flags_of is ∙ mask_again b
 
 -- a workunit's line is its row's alone,
 pub same_line : (v w : WorkunitLine) → line_row v ≡ line_row w → v ≡ w
@@ -78,11 +38,11 @@ same_line v w is =
     let delay : v.params.delay_bound ≡ w.params.delay_bound = cc in
     let credit : v.params.credit ≡ w.params.credit = cc in
     let input : v.input ≡ w.input = cc in
-    let mask = same_mask v.error_mask w.error_mask cc in
-    let canonical = same_number v.canonical w.canonical cc in
-    let assimilated = same_assimilate v.assimilate w.assimilate cc in
-    let deleted = same_file_delete v.file_delete w.file_delete cc in
-    let done = same_number v.done_at w.done_at cc in
+    let mask = same_by error_mask_code flags_of mask_again v.error_mask w.error_mask cc in
+    let canonical = same_by number_or_null read_maybe maybe_again v.canonical w.canonical cc in
+    let assimilated = same_by assimilate_code assimilate_of assimilate_again v.assimilate w.assimilate cc in
+    let deleted = same_by file_delete_code delete_of delete_again v.file_delete w.file_delete cc in
+    let done = same_by number_or_null read_maybe maybe_again v.done_at w.done_at cc in
     let class : v.class ≡ w.class = cc in
     rw (number, name, quorum, target, errors, total, successes, delay, credit, input, mask, canonical, assimilated, deleted, done, class) refl
 
@@ -105,21 +65,8 @@ host_of_row r = record { name = read_text (column r 0); total = read_number (col
 pub same_host : (h k : HostLine) → host_row h ≡ host_row k → h ≡ k
 same_host h k is = ap host_of_row is
 
-abbrev archived_of : Row → Archived
-archived_of r = record {
-  number = read_number (column r 0);
-  name = read_text (column r 1);
-  error_mask = flags_of (read_number (column r 2));
-  canonical = read_maybe (column r 3);
-  output = read_blob (column r 4);
-  done_at = read_number (column r 5);
-}
-
-archived_again : (a : Archived) → archived_of (archived_cells a) ≡ a
-archived_again a = λ i. record a { error_mask = mask_again a.error_mask i; canonical = maybe_again a.canonical i }
-
 pub same_archived : (a b : Archived) → archived_cells a ≡ archived_cells b → a ≡ b
-same_archived a b is = sym (archived_again a) ∙ ap archived_of is ∙ archived_again b
+same_archived = same_by archived_cells read_archived archived_again
 
 pub same_class : (a b : HostClass) → class_cells a ≡ class_cells b → a ≡ b
 same_class a b is =

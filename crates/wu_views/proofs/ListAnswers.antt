@@ -19,7 +19,7 @@ use Rattle.wu_views.specs.Imports.{import_order, imports_in_order}
 use Rattle.wu_views.specs.Listings.{all_results_shown, archive_of, import_shown, placed_archived_row, workunit_shown}
 use Rattle.wu_views.proofs.ImportLemmas.{codes_cmp, in_order_rises, in_order_same, Precedes}
 use Rattle.wu_views.proofs.JoinAnswers as joins
-use Rattle.wu_views.proofs.JoinTexts.{results_here, results_question, results_text, workunits_here, workunits_question, workunits_text}
+use Rattle.wu_views.proofs.JoinTexts.{results_joined, results_text, workunits_joined, workunits_text}
 use Rattle.wu_views.proofs.ListLemmas.{AnswersAll, answers_all}
 use Rattle.wu_views.proofs.ViewAnswers.{host_pair, host_shows, names_rise, names_shown}
 use Rattle.wu_views.specs.declared.texts.TheConstants.{LIST_ARCHIVE, LIST_CLASSES, LIST_HOSTS, LIST_IMPORTS}
@@ -215,16 +215,16 @@ workunits_shown world = map workunit_shown world.workunits
 
 pub workunits_answer : AnswersAll workunits_text workunits_shown
 workunits_answer = record {
-  question = workunits_question;
-  compiles = λ old world known s. (_, _, _, workunits_here old world known s);
-  found = λ old new rows h world known s. joins.workunits_found old world known s rows _ _ (workunits_here old world known s) new h;
+  question = workunits_joined.question;
+  compiles = λ old world known s. (_, _, _, workunits_joined.here old world known s);
+  found = λ old new rows h world known s. joins.workunits_found old world known s rows _ _ (workunits_joined.here old world known s) new h;
 }
 
 -- ---- instances, in order of their workunits' numbers and their own
 
 pub results_answer : AnswersAll results_text all_results_shown
 results_answer = record {
-  question = results_question;
-  compiles = λ old world known s. (_, _, _, results_here old world known s);
-  found = λ old new rows h world known s. joins.results_found old world known s rows _ _ (results_here old world known s) new h;
+  question = results_joined.question;
+  compiles = λ old world known s. (_, _, _, results_joined.here old world known s);
+  found = λ old new rows h world known s. joins.results_found old world known s rows _ _ (results_joined.here old world known s) new h;
 }

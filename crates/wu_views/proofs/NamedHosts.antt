@@ -10,7 +10,8 @@ use Rattle.wu_core.specs.World.{World}
 use Rattle.wu_core.specs.declared.workunit.Instance.{Instance}
 use Rattle.wu_rules.specs.Instances.{is_error}
 use Rattle.wu_views.specs.Counting.{all_instances}
-use Rattle.wu_views.specs.Failures.{all_failures, by_failures, failed_host, failures_of, is_unreplied, most_hosts, with_host_failures, worst_first, worst_hosts}
+use Rattle.wu_views.specs.Failures.{all_failures, by_failures, failed_host, failures_of, is_unreplied, with_host_failures, worst_first, worst_hosts}
+use Rattle.wu_views.specs.declared.failures.TheConstants.{MOST_HOSTS}
 use Rattle.wu_views.specs.declared.failures.HostFailures.{HostFailures}
 
 module _ (P : List ℕ → Type 0) where
@@ -67,4 +68,4 @@ module _ (P : List ℕ → Type 0) where
       let is = all_instances world in
       let names = filter_map failed_host is in
       let each = counted is (hosts_among names) (among names (names_have is (recursion_from_All HasHost is all))) in
-      All-take IsOf most_hosts (worst_first (all_failures is)) (All-from_recursion IsOf (worst_first (all_failures is)) (sorted [] (all_failures is) tt each))
+      All-take IsOf MOST_HOSTS (worst_first (all_failures is)) (All-from_recursion IsOf (worst_first (all_failures is)) (sorted [] (all_failures is) tt each))

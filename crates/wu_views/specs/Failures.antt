@@ -15,6 +15,7 @@ use Rattle.wu_rules.specs.Reporting.{is_no_reply}
 use Rattle.wu_rules.specs.Sending.{is_of}
 use Rattle.wu_views.specs.Counting.{all_instances}
 use Rattle.wu_views.specs.declared.failures.HostFailures.{HostFailures}
+use Rattle.wu_views.specs.declared.failures.TheConstants.{MOST_HOSTS}
 
 -- ---- of instances
 
@@ -56,13 +57,9 @@ with_host_failures (one ∷ more) it =
 abbrev pub worst_first : List HostFailures → List HostFailures
 worst_first hosts = fold with_host_failures [] hosts
 
--- How many hosts a status names.
-abbrev pub most_hosts : ℕ
-most_hosts = 10
-
 -- The hosts of which most present instances failed.
 abbrev pub worst_hosts : World → List HostFailures
-worst_hosts world = take most_hosts (worst_first (all_failures (all_instances world)))
+worst_hosts world = take MOST_HOSTS (worst_first (all_failures (all_instances world)))
 
 -- ---- line by line
 

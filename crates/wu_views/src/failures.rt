@@ -9,7 +9,7 @@ ghost use Rattle.wu_core.specs.declared.fault.Fault.TheVariants.{Output};
 ghost use Rattle.wu_core.specs.Storable.{AreStorable};
 ghost use Rattle.wu_store.specs.Loading.{ServesUnlessFailed};
 ghost use Rattle.wu_store.specs.Reads.{ReadsClassed};
-ghost use Rattle.wu_views.specs.Failures.{by_failures, most_hosts, failed, with_failures, with_host_failures, with_more, worst_first, FindsFailures, FindsWorstHosts, Rise};
+ghost use Rattle.wu_views.specs.Failures.{by_failures, failed, with_failures, with_host_failures, with_more, worst_first, FindsFailures, FindsWorstHosts, Rise};
 
 use crate::lines::ResultLine;
 use crate::listings::ResultListing;
@@ -21,7 +21,7 @@ use std::cmp::Ordering;
 use wu_core::{Fault, Name, Outcome};
 
 /// How many hosts a status names.
-const MOST_HOSTS: usize = 10;
+pub const MOST_HOSTS: usize = 10;
 
 /// A host, and how many of its present instances ended with an error, and how many without a reply.
 #[derive(Drop)]
@@ -64,7 +64,7 @@ fn place_among(hosts: &[HostFailures], host: &HostFailures) -> usize
 
 /// Returns the hosts with most failures, in order. Holds one more than these.
 fn worst_of(alloc: Global, hosts: Vec<HostFailures>) -> Result<Vec<HostFailures>, AllocError>
-    ensures { IfOk result (λ worst. worst.items ≡ take most_hosts (worst_first hosts.items)) }
+    ensures { IfOk result (λ worst. worst.items ≡ take MOST_HOSTS (worst_first hosts.items)) }
 {
     let mut worst = Vec::new(alloc);
     for host in hosts {

@@ -12,26 +12,20 @@ use Rattle.wu_store.proofs.changes.make.Goals as goal
 
 pub returns-in-Add-clause-makes : goal.returns-in-Add-clause-makes
 returns-in-Add-clause-makes g c clean =
-    let old = (state g.S.Store c.args.tx.now.conn.now).now in
-    let new = (state g.S.Store c.add.new.tx.conn.now).now in
-    makes_one c.add.result _ _ old new c.in-Add.is
-    (ok_on c.add.result _ _ (λ adds world stands right. subst (StandsFor new) (placed_above c.in-Add.workunit world right.0.1) (adds world right.0.0 stands)) (c.add.ensures.adds clean))
-    (ok_on c.add.result _ _ (λ spares world stands right. (spares (there_in old world right.0.0 stands)).1) (c.add.ensures.spares clean))
+    makes_one c.add.result _ _ _ _ c.in-Add.is
+    (ok_on c.add.result _ _ (λ adds world stands right. subst (StandsFor _) (placed_above c.in-Add.workunit world right.0.1) (adds world right.0.0 stands)) (c.add.ensures.adds clean))
+    (ok_on c.add.result _ _ (λ spares world stands right. (spares (there_in _ world right.0.0 stands)).1) (c.add.ensures.spares clean))
 
 pub returns-in-Replace-clause-makes : goal.returns-in-Replace-clause-makes
 returns-in-Replace-clause-makes g c clean =
-    let old = (state g.S.Store c.args.tx.now.conn.now).now in
-    let new = (state g.S.Store c.replace.new.tx.conn.now).now in
-    makes_one c.replace.result _ _ old new c.in-Replace.is
+    makes_one c.replace.result _ _ _ _ c.in-Replace.is
     (ok_on c.replace.result _ _ (λ replaces world stands right. replaces world right.0.0 stands right.0.1) (c.replace.ensures.replaces clean))
-    (ok_on c.replace.result _ _ (λ spares world stands right. (spares (there_in old world right.0.0 stands)).1) (c.replace.ensures.spares clean))
+    (ok_on c.replace.result _ _ (λ spares world stands right. (spares (there_in _ world right.0.0 stands)).1) (c.replace.ensures.spares clean))
 
 pub returns-in-Remove-clause-makes : goal.returns-in-Remove-clause-makes
 returns-in-Remove-clause-makes g c clean =
-    let old = (state g.S.Store c.args.tx.now.conn.now).now in
-    let new = (state g.S.Store c.delete_workunit.new.tx.conn.now).now in
-    makes_one c.delete_workunit.result _ _ old new c.in-Remove.is
-    (ok_both c.delete_workunit.result _ _ _ (λ deletes goes world stands right. stands_without old new world c.in-Remove.number stands deletes goes) (c.delete_workunit.ensures.deletes clean) (c.delete_workunit.ensures.queue clean))
+    makes_one c.delete_workunit.result _ _ _ _ c.in-Remove.is
+    (ok_both c.delete_workunit.result _ _ _ (λ deletes goes world stands right. stands_without _ _ world c.in-Remove.number stands deletes goes) (c.delete_workunit.ensures.deletes clean) (c.delete_workunit.ensures.queue clean))
     (ok_on c.delete_workunit.result _ _ (λ spares world stands right. (spares ((stands.refines.trees.workunit, stands.refines.tables.workunit), tt)).1) (c.delete_workunit.ensures.spares clean))
 
 pub returns-in-Grants-clause-makes : goal.returns-in-Grants-clause-makes
@@ -46,36 +40,28 @@ returns-in-Grants-clause-makes g c clean =
 
 pub returns-in-Archive-clause-makes : goal.returns-in-Archive-clause-makes
 returns-in-Archive-clause-makes g c clean =
-    let old = (state g.S.Store c.args.tx.now.conn.now).now in
-    let new = (state g.S.Store c.insert_archived.new.tx.conn.now).now in
-    makes_one c.insert_archived.result _ _ old new c.in-Archive.is
+    makes_one c.insert_archived.result _ _ _ _ c.in-Archive.is
     (ok_both c.insert_archived.result _ _ _ (λ puts keeps world stands right.
-    stands_kept old new world (with_archived c.in-Archive.archived world) stands (λ queued. queued) refl (puts world stands.refines right.0) keeps) (c.insert_archived.ensures.puts clean) (c.insert_archived.ensures.queue clean))
+    stands_kept _ _ world (with_archived c.in-Archive.archived world) stands (λ queued. queued) refl (puts world stands.refines right.0) keeps) (c.insert_archived.ensures.puts clean) (c.insert_archived.ensures.queue clean))
     (ok_on c.insert_archived.result _ _ (λ spares world stands right. (spares ((stands.refines.trees.archived, stands.refines.tables.archived), tt)).1) (c.insert_archived.ensures.spares clean))
 
 pub returns-in-Next-clause-makes : goal.returns-in-Next-clause-makes
 returns-in-Next-clause-makes g c clean =
-    let old = (state g.S.Store c.args.tx.now.conn.now).now in
-    let new = (state g.S.Store c.set_next_number.new.tx.conn.now).now in
-    makes_one c.set_next_number.result _ _ old new c.in-Next.is
+    makes_one c.set_next_number.result _ _ _ _ c.in-Next.is
     (ok_both c.set_next_number.result _ _ _ (λ sets keeps world stands right.
-    stands_kept old new world (with_next c.in-Next.number world) stands (λ queued. queued) refl (sets world stands.refines) keeps) (c.set_next_number.ensures.sets clean) (c.set_next_number.ensures.queue clean))
-    (ok_on c.set_next_number.result _ _ (λ spares world stands right. (spares (project_there old world stands.refines)).1) (c.set_next_number.ensures.spares clean))
+    stands_kept _ _ world (with_next c.in-Next.number world) stands (λ queued. queued) refl (sets world stands.refines) keeps) (c.set_next_number.ensures.sets clean) (c.set_next_number.ensures.queue clean))
+    (ok_on c.set_next_number.result _ _ (λ spares world stands right. (spares (project_there _ world stands.refines)).1) (c.set_next_number.ensures.spares clean))
 
 pub returns-in-Keep-clause-makes : goal.returns-in-Keep-clause-makes
 returns-in-Keep-clause-makes g c clean =
-    let old = (state g.S.Store c.args.tx.now.conn.now).now in
-    let new = (state g.S.Store c.insert_import.new.tx.conn.now).now in
-    makes_one c.insert_import.result _ _ old new c.in-Keep.is
+    makes_one c.insert_import.result _ _ _ _ c.in-Keep.is
     (ok_both c.insert_import.result _ _ _ (λ puts keeps world stands right.
-    stands_kept old new world (with_import (import_of_change c.in-Keep.import) world) stands (λ queued. queued) refl (puts world stands.refines right.0) keeps) (c.insert_import.ensures.puts clean) (c.insert_import.ensures.queue clean))
+    stands_kept _ _ world (with_import (import_of_change c.in-Keep.import) world) stands (λ queued. queued) refl (puts world stands.refines right.0) keeps) (c.insert_import.ensures.puts clean) (c.insert_import.ensures.queue clean))
     (ok_on c.insert_import.result _ _ (λ spares world stands right. (spares ((stands.refines.trees.import, stands.refines.tables.import), tt)).1) (c.insert_import.ensures.spares clean))
 
 pub returns-in-Class-clause-makes : goal.returns-in-Class-clause-makes
 returns-in-Class-clause-makes g c clean =
-    let old = (state g.S.Store c.args.tx.now.conn.now).now in
-    let new = (state g.S.Store c.put_host_class.new.tx.conn.now).now in
-    makes_one c.put_host_class.result _ _ old new c.in-Class.is
+    makes_one c.put_host_class.result _ _ _ _ c.in-Class.is
     (ok_on c.put_host_class.result _ _ (λ sets world stands right. record {
       refines = sets.stands world right.0 stands.refines;
       queue = λ queued. sets.queue world (marked world) right.0 stands.refines (stands.queue queued);
@@ -84,9 +70,7 @@ returns-in-Class-clause-makes g c clean =
 
 pub returns-in-Upgrade-clause-makes : goal.returns-in-Upgrade-clause-makes
 returns-in-Upgrade-clause-makes g c clean =
-    let old = (state g.S.Store c.args.tx.now.conn.now).now in
-    let new = (state g.S.Store c.upgrade.new.tx.conn.now).now in
-    makes_one c.upgrade.result _ _ old new c.in-Upgrade.is
+    makes_one c.upgrade.result _ _ _ _ c.in-Upgrade.is
     (ok_on c.upgrade.result _ _ (λ upgrades world stands right.
     let (from, older, same) = right.0 in
     upgrades world from older stands (c.as_slice-in-Upgrade.ensures.value ∙ same)) (c.upgrade.ensures.upgrades clean))

@@ -1,4 +1,4 @@
-use Rattle.wu_schema.proofs.Words.{Refines, state, subst}
+use Rattle.wu_schema.proofs.Words.{Refines, subst}
 use Rattle.wu_schema.proofs.CallLemmas.{ok_on}
 use Rattle.wu_store.specs.Changes.{keeping, with_replaced}
 use Rattle.wu_store.proofs.ReplaceLemmas.{class_kept, class_replaced}
@@ -9,18 +9,16 @@ use Rattle.wu_store.proofs.changes.put_class.Goals as goal
 
 pub returns-clause-puts : goal.returns-clause-puts
 returns-clause-puts g c clean =
-    let new = (state g.S.Store c.set_class.new.tx.conn.now).now in
     let was = c.args.was.now in
     let w = c.args.workunit.now in
     ok_on c.set_class.result _ _ (λ sets world known s. (
-      subst (Refines new) (class_replaced w world was) (sets.stands (with_replaced (keeping was w) world) known s),
+      subst (Refines _) (class_replaced w world was) (sets.stands (with_replaced (keeping was w) world) known s),
       λ marked q. sets.queue (with_replaced (keeping was w) world) marked known s q,
     )) (c.set_class.ensures.sets clean)
 
 pub returns-then-was-workunit-clause-puts : goal.returns-then-was-workunit-clause-puts
 returns-then-was-workunit-clause-puts g c clean world known s =
-    let db = (state g.S.Store c.args.tx.now.conn.now).now in
-    (subst (Refines db) (class_kept c.args.workunit.now world c.args.was.now c.if-was-workunit.true) s, λ marked q. q)
+    (subst (Refines _) (class_kept c.args.workunit.now world c.args.was.now c.if-was-workunit.true) s, λ marked q. q)
 
 pub returns-then-was-workunit-clause-spares : goal.returns-then-was-workunit-clause-spares
 returns-then-was-workunit-clause-spares g c clean = spares_none tables_of_workunits _

@@ -1,4 +1,4 @@
-use Rattle.wu_schema.proofs.Words.{ap, state, subst, sym, ◌∙◌}
+use Rattle.wu_schema.proofs.Words.{ap, subst, sym, ◌∙◌}
 use Rattle.wu_core.specs.declared.marks.Marks.{Marks}
 use Rattle.wu_schema.specs.Queue.{HasQueue}
 use Rattle.wu_schema.proofs.CallLemmas.{ok_both, ok_on}
@@ -13,17 +13,15 @@ use Rattle.wu_store.proofs.changes.put_marks.Goals as goal
 
 pub returns-then-is_same_marks-clause-puts : goal.returns-then-is_same_marks-clause-puts
 returns-then-is_same_marks-clause-puts g c clean first world before found s q =
-    let db = (state g.S.Store c.args.tx.now.conn.now).now in
     let same = sym c.marks_of.ensures ∙ c.is_same_marks.ensures.0 c.if-is_same_marks.true ∙ c.marks_of-marks.ensures in
-    (s, subst (HasQueue db) (marks_same c.args.workunit.now first world before c.args.was.now found same) q)
+    (s, subst (HasQueue _) (marks_same c.args.workunit.now first world before c.args.was.now found same) q)
 
 pub returns-clause-puts : goal.returns-clause-puts
 returns-clause-puts g c clean =
-    let new = (state g.S.Store c.set_marks.new.tx.conn.now).now in
     let w = c.args.workunit.now in
     ok_both c.set_marks.result _ _ _ (λ sets stays first world before found s q. (
       stays (with_replaced w world) (marked world) s q,
-      subst (HasQueue new) (ap (λ (m : Marks). with_set_marks w.number m (marked world)) c.marks_of-marks.ensures ∙ marks_replaced w first world before c.args.was.now found) (sets (with_replaced w world) (marked world) s q),
+      subst (HasQueue _) (ap (λ (m : Marks). with_set_marks w.number m (marked world)) c.marks_of-marks.ensures ∙ marks_replaced w first world before c.args.was.now found) (sets (with_replaced w world) (marked world) s q),
     )) (c.set_marks.ensures.sets clean) (c.set_marks.ensures.stays clean)
 
 pub returns-then-is_same_marks-clause-spares : goal.returns-then-is_same_marks-clause-spares

@@ -1,4 +1,4 @@
-use Rattle.wu_schema.proofs.Words.{Refines, state, subst}
+use Rattle.wu_schema.proofs.Words.{Refines, subst}
 use Rattle.wu_schema.proofs.CallLemmas.{ok_both, ok_on}
 use Rattle.wu_store.proofs.PlacedLemmas.{is_there}
 use Rattle.wu_store.proofs.ReplaceLemmas.{row_replaced, row_same}
@@ -9,18 +9,14 @@ use Rattle.wu_store.proofs.changes.put_row.Goals as goal
 
 pub returns-then-is_same_row-clause-puts : goal.returns-then-is_same_row-clause-puts
 returns-then-is_same_row-clause-puts g c clean world s found =
-    let db = (state g.S.Store c.args.tx.now.conn.now).now in
-    let w = c.args.workunit.now in
-    (subst (Refines db) (row_same w db world s c.args.was.now found (c.is_same_row.ensures.0 c.if-is_same_row.true)) s, λ marked q. q)
+    (subst (Refines _) (row_same c.args.workunit.now _ world s c.args.was.now found (c.is_same_row.ensures.0 c.if-is_same_row.true)) s, λ marked q. q)
 
 pub returns-clause-puts : goal.returns-clause-puts
 returns-clause-puts g c clean =
-    let old = (state g.S.Store c.args.tx.now.conn.now).now in
-    let new = (state g.S.Store c.set_workunit.new.tx.conn.now).now in
     let w = c.args.workunit.now in
     ok_both c.set_workunit.result _ _ _ (λ sets leaves world s found.
     let there = is_there w.number c.args.was.now world.workunits found in
-    (subst (Refines new) (row_replaced w old world s c.args.was.now found) (sets world s there), λ marked q. leaves world marked s there q)) (c.set_workunit.ensures.sets clean) (c.set_workunit.ensures.queue clean)
+    (subst (Refines _) (row_replaced w _ world s c.args.was.now found) (sets world s there), λ marked q. leaves world marked s there q)) (c.set_workunit.ensures.sets clean) (c.set_workunit.ensures.queue clean)
 
 pub returns-then-is_same_row-clause-spares : goal.returns-then-is_same_row-clause-spares
 returns-then-is_same_row-clause-spares g c clean = spares_none tables_of_workunits _

@@ -13,7 +13,6 @@ returns-then-len-clause-replaces g c clean =
 
 pub returns-clause-replaces : goal.returns-clause-replaces
 returns-clause-replaces g c clean =
-    let old = (state g.S.Store c.args.tx.now.conn.now).now in
     let next = (state g.S.Store c.put_class.new.tx.conn.now).now in
     let late = (state g.S.Store c.put_instances.new.tx.conn.now).now in
     let was = c.args.was.now in
@@ -28,7 +27,7 @@ returns-clause-replaces g c clean =
     let classed = c.in_ok-put_class.ensures.puts middle world known row.0 in
     let all = instances world was found few classed.0 in
     let q = stands.queue (omega (arith, known)) in
-    let done = marks old world stands.refines found all.0 (all.1 (marked world) (classed.1 (marked world) (row.1 (marked world) q))) in
+    let done = marks _ world stands.refines found all.0 (all.1 (marked world) (classed.1 (marked world) (row.1 (marked world) q))) in
     record { refines = done.0; queue = λ _. done.1 }) (c.put_marks.ensures.puts clean)
 
 pub returns-clause-spares : goal.returns-clause-spares

@@ -9,14 +9,11 @@ use Rattle.wu_store.proofs.changes.replace_whole.Goals as goal
 
 pub returns-clause-replaces : goal.returns-clause-replaces
 returns-clause-replaces g c clean =
-    let old = (state g.S.Store c.args.tx.now.conn.now).now in
-    let mid = (state g.S.Store c.delete_workunit.new.tx.conn.now).now in
-    let new = (state g.S.Store c.add.new.tx.conn.now).now in
     let w = c.args.workunit.now in
     let still : HasCleanDisk (state g.S.Store c.delete_workunit.new.tx.conn.now) = omega (arith, c.add.ensures.writes.part.survives.clean) in
     ok_on c.add.result _ _ (λ adds world queued stands there.
-    let gone = stands_without old mid world w.number stands (c.in_ok-delete_workunit.ensures.deletes still) (c.in_ok-delete_workunit.ensures.queue still) in
-    stands_replaced old new world w stands.refines there (adds (without_workunit w.number world) queued gone)) (c.add.ensures.adds clean)
+    let gone = stands_without _ _ world w.number stands (c.in_ok-delete_workunit.ensures.deletes still) (c.in_ok-delete_workunit.ensures.queue still) in
+    stands_replaced _ _ world w stands.refines there (adds (without_workunit w.number world) queued gone)) (c.add.ensures.adds clean)
 
 pub returns-clause-spares : goal.returns-clause-spares
 returns-clause-spares g c =

@@ -1,4 +1,4 @@
-use Rattle.wu_schema.proofs.Words.{Err, Ok, Text, [], ap, bound_value, number, refl, state, sym, ◌∙◌, ◌∷◌, ◌≡◌}
+use Rattle.wu_schema.proofs.Words.{Text, [], ap, bound_value, number, refl, state, sym, ◌∙◌, ◌∷◌, ◌≡◌}
 use Rattle.wu_core.specs.Storable.{IsClass}
 use Rattle.wu_schema.proofs.Parts.{HostClasses}
 use Rattle.wu_schema.proofs.InsertEffect.{also, no_more}
@@ -14,40 +14,36 @@ returns-in_err-row g c =
     let q = c.in_err-row.ensures in
     let host = c.args.host.now in
     let given = also (ap bound_value c.params-to_sql.ensures ∙ ap (λ t. Text t) c.as_str.ensures) no_more in
-    let fault = c.in_err-row.field-0.0 in
-    let r = c.from_residual.result in
     let same = c.from_residual.ensures.1 in
     let it = asked_row g.S.Store (class_question HostClasses (λ version known. known) host_asked host_fits (Text host ∷ []) refl (λ _. refl)) c.args.conn.now c.ask_row.new.conn _ given (row_named host)
-    (host_found (state g.S.Store c.args.conn.now) (state g.S.Store c.ask_row.new.conn) host) (Err fault) q.asks q.opens q.shows q.fails q.told in
+    (host_found (state g.S.Store c.args.conn.now) (state g.S.Store c.ask_row.new.conn) host) _ q.asks q.opens q.shows q.fails q.told in
     record {
-      opens = opens_handed r fault same g.S.Store c.ask_row.new.conn it.opens;
-      reads = reads_handed g.S.Store _ _ r fault same it.reads (λ other told world. tt) (λ world stood can. tt);
+      opens = opens_handed _ _ same g.S.Store c.ask_row.new.conn it.opens;
+      reads = reads_handed g.S.Store _ _ _ _ same it.reads (λ other told world. tt) (λ world stood can. tt);
     }
 
 pub returns-in-Some : goal.returns-in-Some
 returns-in-Some g c =
     let q = c.in_ok-row.ensures in
     let host = c.args.host.now in
-    let row = c.in_ok-row.row in
     let given = also (ap bound_value c.params-to_sql.ensures ∙ ap (λ t. Text t) c.as_str.ensures) no_more in
     let r = c.class_at.result in
     let reads = c.class_at.ensures in
     let it = asked_row g.S.Store (class_question HostClasses (λ version known. known) host_asked host_fits (Text host ∷ []) refl (λ _. refl)) c.args.conn.now c.ask_row.new.conn _ given (row_named host)
-    (host_found (state g.S.Store c.args.conn.now) (state g.S.Store c.ask_row.new.conn) host) (Ok row) q.asks q.opens q.shows q.fails q.told in
+    (host_found (state g.S.Store c.args.conn.now) (state g.S.Store c.ask_row.new.conn) host) _ q.asks q.opens q.shows q.fails q.told in
     record {
-      opens = opens_made g.S.Store c.ask_row.new.conn r it.opens;
-      reads = reads_also g.S.Store _ _ row r (never_broken r reads.refused) (fault_read r reads.refused) it.reads (λ world stood found. if_ok r _ _ (λ x value. let e : number x ≡ number (class_named host world) = sym value.0 ∙ shown_class _ c.in-Some.row (sym (found) ∙ c.in-Some.is) in cc) reads.value) (λ world stood found can. never_unread number IsClass _ r (class_named host world) reads can (shown_class _ c.in-Some.row (sym (found) ∙ c.in-Some.is)));
+      opens = opens_made g.S.Store c.ask_row.new.conn _ it.opens;
+      reads = reads_also g.S.Store _ _ _ _ (never_broken _ reads.refused) (fault_read _ reads.refused) it.reads (λ world stood found. if_ok r _ _ (λ x value. let e : number x ≡ number (class_named host world) = sym value.0 ∙ shown_class _ c.in-Some.row (sym (found) ∙ c.in-Some.is) in cc) reads.value) (λ world stood found can. never_unread number IsClass _ r (class_named host world) reads can (shown_class _ c.in-Some.row (sym (found) ∙ c.in-Some.is)));
     }
 
 pub returns-in-None : goal.returns-in-None
 returns-in-None g c =
     let q = c.in_ok-row.ensures in
     let host = c.args.host.now in
-    let row = c.in_ok-row.row in
     let given = also (ap bound_value c.params-to_sql.ensures ∙ ap (λ t. Text t) c.as_str.ensures) no_more in
     let it = asked_row g.S.Store (class_question HostClasses (λ version known. known) host_asked host_fits (Text host ∷ []) refl (λ _. refl)) c.args.conn.now c.ask_row.new.conn _ given (row_named host)
-    (host_found (state g.S.Store c.args.conn.now) (state g.S.Store c.ask_row.new.conn) host) (Ok row) q.asks q.opens q.shows q.fails q.told in
+    (host_found (state g.S.Store c.args.conn.now) (state g.S.Store c.ask_row.new.conn) host) _ q.asks q.opens q.shows q.fails q.told in
     record {
       opens = it.opens;
-      reads = reads_made g.S.Store _ _ row 0 it.reads (λ world stood told. sym (none_shown _ (sym (told) ∙ c.in-None.is)));
+      reads = reads_made g.S.Store _ _ _ 0 it.reads (λ world stood told. sym (none_shown _ (sym (told) ∙ c.in-None.is)));
     }

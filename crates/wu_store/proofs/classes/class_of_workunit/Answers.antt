@@ -1,4 +1,4 @@
-use Rattle.wu_schema.proofs.Words.{Err, None, Ok, Some, [], ap, arith, number, refl, state, subst, sym, ◌∙◌, ◌∷◌, ◌≡◌}
+use Rattle.wu_schema.proofs.Words.{None, Some, [], ap, arith, number, refl, state, subst, sym, ◌∙◌, ◌∷◌, ◌≡◌}
 use Rattle.std.specs.Prelude.{IfSome}
 use Rattle.wu_core.specs.Storable.{IsClass}
 use Rattle.wu_schema.proofs.Parts.{WorkClasses}
@@ -12,12 +12,10 @@ use Rattle.wu_store.proofs.classes.class_of_workunit.Goals as goal
 pub returns-in_err-key : goal.returns-in_err-key
 returns-in_err-key g c =
     let key = c.in_err-key.ensures in
-    let fault = c.in_err-key.field-0.0 in
-    let r = c.from_residual.result in
     let same = c.from_residual.ensures.1 in
     record {
       opens = λ low. absurd (omega (arith, low, key.beyond));
-      reads = reads_handed g.S.Store _ _ r fault same (reads_unkeyed g.S.Store _ c.args.number fault key.refused key.beyond) (λ other told world. tt) (λ world stood can. can.0);
+      reads = reads_handed g.S.Store _ _ _ _ same (reads_unkeyed g.S.Store _ c.args.number _ key.refused key.beyond) (λ other told world. tt) (λ world stood can. can.0);
     }
 
 pub returns-in_err-row : goal.returns-in_err-row
@@ -25,49 +23,43 @@ returns-in_err-row g c =
     let q = c.in_err-row.ensures in
     let n = c.args.number in
     let given = also (sent_number n c.params-to_sql.ensures c.in_ok-key.ensures.value c.in_ok-key.ensures.within) no_more in
-    let fault = c.in_err-row.field-0.0 in
-    let r = c.from_residual-in_err-row.result in
     let same = c.from_residual-in_err-row.ensures.1 in
     let it = asked_row g.S.Store (class_question WorkClasses (λ version known. known) class_asked class_fits (number n ∷ []) refl (λ _. refl)) c.args.conn.now c.ask_row.new.conn _ given (row_classed n)
-    (class_found (state g.S.Store c.args.conn.now) (state g.S.Store c.ask_row.new.conn) n) (Err fault) q.asks q.opens q.shows q.fails q.told in
+    (class_found (state g.S.Store c.args.conn.now) (state g.S.Store c.ask_row.new.conn) n) _ q.asks q.opens q.shows q.fails q.told in
     record {
-      opens = λ low. opens_handed r fault same g.S.Store c.ask_row.new.conn it.opens;
-      reads = reads_handed g.S.Store _ _ r fault same it.reads (λ other told world. tt) (λ world stood can. tt);
+      opens = λ low. opens_handed _ _ same g.S.Store c.ask_row.new.conn it.opens;
+      reads = reads_handed g.S.Store _ _ _ _ same it.reads (λ other told world. tt) (λ world stood can. tt);
     }
 
 pub returns-in_err-class_at-in-Some : goal.returns-in_err-class_at-in-Some
 returns-in_err-class_at-in-Some g c =
     let q = c.in_ok-row.ensures in
     let n = c.args.number in
-    let row = c.in_ok-row.row in
     let given = also (sent_number n c.params-to_sql.ensures c.in_ok-key.ensures.value c.in_ok-key.ensures.within) no_more in
-    let fault = c.in_err-class_at-in-Some.field-0.0 in
-    let r = c.from_residual-in_err-class_at-in-Some.result in
     let same = c.from_residual-in_err-class_at-in-Some.ensures.1 in
     let reads = c.in_err-class_at-in-Some.ensures in
-    let refused = read_handed r fault same reads.refused in
+    let refused = read_handed _ _ same reads.refused in
     let it = asked_row g.S.Store (class_question WorkClasses (λ version known. known) class_asked class_fits (number n ∷ []) refl (λ _. refl)) c.args.conn.now c.ask_row.new.conn _ given (row_classed n)
-    (class_found (state g.S.Store c.args.conn.now) (state g.S.Store c.ask_row.new.conn) n) (Ok row) q.asks q.opens q.shows q.fails q.told in
+    (class_found (state g.S.Store c.args.conn.now) (state g.S.Store c.ask_row.new.conn) n) _ q.asks q.opens q.shows q.fails q.told in
     record {
-      opens = λ low. opens_made g.S.Store c.ask_row.new.conn r it.opens;
-      reads = reads_also g.S.Store _ _ row r (never_broken r refused) (fault_read r refused) it.reads (λ world stood found. nothing_handed r fault same _) (λ world stood found can.
+      opens = λ low. opens_made g.S.Store c.ask_row.new.conn _ it.opens;
+      reads = reads_also g.S.Store _ _ _ _ (never_broken _ refused) (fault_read _ refused) it.reads (λ world stood found. nothing_handed _ _ same _) (λ world stood found can.
           let class = shown_work _ c.in-Some.row (sym (found) ∙ c.in-Some.is) in
-          handed_on r fault same (never_unread number IsClass _ (Err fault) class.0 reads (subst (λ o. IfSome o IsClass) class.1 can.1) class.2));
+          handed_on _ _ same (never_unread number IsClass _ _ class.0 reads (subst (λ o. IfSome o IsClass) class.1 can.1) class.2));
     }
 
 pub returns-in_ok-class_at-in-Some : goal.returns-in_ok-class_at-in-Some
 returns-in_ok-class_at-in-Some g c =
     let q = c.in_ok-row.ensures in
     let n = c.args.number in
-    let row = c.in_ok-row.row in
     let given = also (sent_number n c.params-to_sql.ensures c.in_ok-key.ensures.value c.in_ok-key.ensures.within) no_more in
     let reads = c.in_ok-class_at-in-Some.ensures in
     let x = c.in_ok-class_at-in-Some.field-0 in
     let it = asked_row g.S.Store (class_question WorkClasses (λ version known. known) class_asked class_fits (number n ∷ []) refl (λ _. refl)) c.args.conn.now c.ask_row.new.conn _ given (row_classed n)
-    (class_found (state g.S.Store c.args.conn.now) (state g.S.Store c.ask_row.new.conn) n) (Ok row) q.asks q.opens q.shows q.fails q.told in
+    (class_found (state g.S.Store c.args.conn.now) (state g.S.Store c.ask_row.new.conn) n) _ q.asks q.opens q.shows q.fails q.told in
     record {
       opens = λ low. it.opens;
-      reads = reads_made g.S.Store _ _ row (Some x) it.reads (λ world stood told.
+      reads = reads_made g.S.Store _ _ _ (Some x) it.reads (λ world stood told.
           let class = shown_work _ c.in-Some.row (sym (told) ∙ c.in-Some.is) in
           let e : number x ≡ number class.0 = sym reads.value.0 ∙ class.2 in
           let k : x ≡ class.0 = cc in
@@ -78,11 +70,10 @@ pub returns-in-None : goal.returns-in-None
 returns-in-None g c =
     let q = c.in_ok-row.ensures in
     let n = c.args.number in
-    let row = c.in_ok-row.row in
     let given = also (sent_number n c.params-to_sql.ensures c.in_ok-key.ensures.value c.in_ok-key.ensures.within) no_more in
     let it = asked_row g.S.Store (class_question WorkClasses (λ version known. known) class_asked class_fits (number n ∷ []) refl (λ _. refl)) c.args.conn.now c.ask_row.new.conn _ given (row_classed n)
-    (class_found (state g.S.Store c.args.conn.now) (state g.S.Store c.ask_row.new.conn) n) (Ok row) q.asks q.opens q.shows q.fails q.told in
+    (class_found (state g.S.Store c.args.conn.now) (state g.S.Store c.ask_row.new.conn) n) _ q.asks q.opens q.shows q.fails q.told in
     record {
       opens = λ low. it.opens;
-      reads = reads_made g.S.Store _ _ row None it.reads (λ world stood told. sym (no_work _ (sym (told) ∙ c.in-None.is)));
+      reads = reads_made g.S.Store _ _ _ None it.reads (λ world stood told. sym (no_work _ (sym (told) ∙ c.in-None.is)));
     }

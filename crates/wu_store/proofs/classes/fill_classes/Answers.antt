@@ -1,4 +1,4 @@
-use Rattle.wu_schema.proofs.Words.{Workunit, arith, get_or, length, length-map, map, map-map, rules, state, subst, sym, take, ap, ℕ, ◌<◌, ◌∙◌, ◌≡◌, ◌+◌, [], ◌∷◌}
+use Rattle.wu_schema.proofs.Words.{Workunit, arith, get_or, length, length-map, map, map-map, rules, subst, sym, take, ap, ℕ, ◌<◌, ◌∙◌, ◌≡◌, ◌+◌, [], ◌∷◌}
 use Rattle.std.proofs.Math.Seq.{take-length}
 use Rattle.std.proofs.lemmas.List.{get_or-map}
 use Rattle.wu_core.specs.declared.marks.Marks.{Marks}
@@ -25,7 +25,6 @@ loop-row-preserved g c =
     let rows = c.args.rows.now in
     let i = c.loop-row.row-index in
     let one = c.row-item.result in
-    let new = (state g.S.Store c.insert_class.new.tx.conn.now).now in
     let low : i < length rows = omega (arith, c.loop-row-test.true) in
     let at : get_or rows i one ≡ one = search rules in (
       works_then works (works_once wrote),
@@ -40,7 +39,7 @@ loop-row-preserved g c =
                 let found : get_or (unbound_in world) i (zeroed one) ≡ zeroed one = ap (λ zs. get_or zs i (zeroed one)) (sym zeros) ∙ get_or-map zeroed rows i one (zeroed one) low ∙ ap zeroed at in
                 let more : with_class_of one.0 0 (take i (unbound_in world)) ≡ take (i + 1) (unbound_in world) = filled_more (λ (w : Workunit). 0) world.workunits (world_rises _ world s) i (zeroed one) (zeroed one) within found in (
                   adds.stands world (take i (unbound_in world)) older tables stands,
-                  subst (HasClassTables new) more (adds.tables (take i (unbound_in world)) tables),
+                  subst (HasClassTables _) more (adds.tables (take i (unbound_in world)) tables),
                   λ marked q. adds.queue (take i (unbound_in world)) marked tables (keeps marked q),
                 ),
           ),
@@ -51,7 +50,6 @@ returns g c =
     let rows = c.args.rows.now in
     let at_end : c.loop-row.row-index ≡ length rows = omega (arith, c.loop-row-test.false, c.loop-row.auto.row-index-end) in
     let (works, before) = c.loop-row.invariant in
-    let new = (state g.S.Store c.loop-row.tx.conn.now).now in
     record {
       works = works;
       spares = λ clean. (before clean).0;
@@ -60,5 +58,5 @@ returns g c =
           let zeros : map zeroed rows ≡ unbound_in world = ap (map zeroed) same ∙ map-map zeroed tagged world.workunits in
           let long : c.loop-row.row-index ≡ length (unbound_in world) = at_end ∙ sym (length-map rows zeroed) ∙ ap (λ zs. length zs) zeros in
           let whole : take c.loop-row.row-index (unbound_in world) ≡ unbound_in world = rw long (take-length (unbound_in world)) in
-          (stands, subst (HasClassTables new) whole tables, keeps);
+          (stands, subst (HasClassTables _) whole tables, keeps);
     }

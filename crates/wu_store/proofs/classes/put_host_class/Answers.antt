@@ -3,10 +3,10 @@ use Rattle.wu_core.specs.declared.workunit.HostClass.{HostClass}
 use Rattle.wu_schema.proofs.InsertEffect.{also, no_more}
 use Rattle.wu_schema.proofs.CallLemmas.{ran_as}
 use Rattle.wu_schema.proofs.StepLemmas.{frame_then}
-use Rattle.wu_store.proofs.HostClassEffect.{changes_host, cut_text, host_put}
-use Rattle.wu_store.proofs.SpareLemmas.{spares_delete_host, spares_host}
+use Rattle.wu_store.proofs.HostClassEffect.{changes_host, cut_text, host_fits, host_put}
+use Rattle.wu_store.proofs.SpareLemmas.{spares_delete_host}
 use Rattle.wu_schema.specs.Made.{host_class_table}
-use Rattle.wu_schema.proofs.OthersLemmas.{spares_then}
+use Rattle.wu_schema.proofs.OthersLemmas.{insert_spares, ours_host_class, spares_then}
 use Rattle.wu_store.proofs.classes.put_host_class.Goals as goal
 
 -- the row that the host had goes, and the new one is put in
@@ -28,5 +28,5 @@ returns g c =
           ran_as mid new host_put.text _ _ then r (c.execute-2.ensures.ran clean) (λ count ran. changes_host it old mid new one.0 one.1 count ran);
       spares = λ clean.
           let one = first (omega (arith, clean, c.execute-2.ensures.writes.part.survives.clean)) in
-          ran_as mid new host_put.text _ _ then r (c.execute-2.ensures.ran clean) (λ count ran. spares_then (host_class_table ∷ []) old.now mid.now new.now (spares_delete_host it.host old mid one.0 one.1) (spares_host _ mid new count ran));
+          ran_as mid new host_put.text _ _ then r (c.execute-2.ensures.ran clean) (λ count ran. spares_then (host_class_table ∷ []) old.now mid.now new.now (spares_delete_host it.host old mid one.0 one.1) (insert_spares host_class_table.0 host_class_table.1 host_put host_fits (λ tree. ours_host_class) _ mid new count ran));
     }

@@ -9,12 +9,10 @@ use Rattle.wu_store.proofs.due.first.Goals as goal
 
 pub returns-in_err-workunit : goal.returns-in_err-workunit
 returns-in_err-workunit g c =
-    let fault = c.in_err-workunit.field-0.0 in
-    let r = c.from_residual.result in
     let same = c.from_residual.ensures.1 in
     record {
-      opens = opens_handed r fault same g.S.Store c.load_early.new.conn (c.in_err-workunit.ensures.opens (omega arith));
-      reads = reads_handed g.S.Store _ _ r fault same c.in_err-workunit.ensures.reads (λ other told world early. told) (λ world stands storable. (numbered_loads 0 world (omega arith) storable));
+      opens = opens_handed _ _ same g.S.Store c.load_early.new.conn (c.in_err-workunit.ensures.opens (omega arith));
+      reads = reads_handed g.S.Store _ _ _ _ same c.in_err-workunit.ensures.reads (λ other told world early. told) (λ world stands storable. (numbered_loads 0 world (omega arith) storable));
     }
 
 pub returns-in-Some-clause-reads : goal.returns-in-Some-clause-reads

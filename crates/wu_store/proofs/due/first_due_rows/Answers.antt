@@ -7,16 +7,14 @@ use Rattle.wu_store.proofs.due.first_due_rows.Goals as goal
 
 pub returns-in_err-rows : goal.returns-in_err-rows
 returns-in_err-rows g c =
-    let fault = c.in_err-rows.field-0.0 in
-    let r = c.from_residual.result in
     let same = c.from_residual.ensures.1 in
     record {
-      asks = asks_handed g.S.Store _ _ r fault same c.in_err-rows.ensures.asks;
-      opens = λ low. opens_handed r fault same g.S.Store c.due_rows.new.conn (c.in_err-rows.ensures.opens low);
-      answers = λ clean. nothing_handed r fault same _;
-      few = nothing_handed r fault same _;
-      fault = fault_handed r fault same c.in_err-rows.ensures.fault;
-      unrefused = λ low clean marked has limit. handed_on r fault same (c.in_err-rows.ensures.unrefused low clean marked has limit);
+      asks = asks_handed g.S.Store _ _ _ _ same c.in_err-rows.ensures.asks;
+      opens = λ low. opens_handed _ _ same g.S.Store c.due_rows.new.conn (c.in_err-rows.ensures.opens low);
+      answers = λ clean. nothing_handed _ _ same _;
+      few = nothing_handed _ _ same _;
+      fault = fault_handed _ _ same c.in_err-rows.ensures.fault;
+      unrefused = λ low clean marked has limit. handed_on _ _ same (c.in_err-rows.ensures.unrefused low clean marked has limit);
     }
 
 pub returns-then-len-limit-clause-asks : goal.returns-then-len-limit-clause-asks

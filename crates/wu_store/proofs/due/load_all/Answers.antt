@@ -26,14 +26,12 @@ loop-row-preserved g c =
 
 pub returns-in_err-workunit : goal.returns-in_err-workunit
 returns-in_err-workunit g c =
-    let fault = c.in_err-workunit.field-0.0 in
-    let r = c.from_residual.result in
     let same = c.from_residual.ensures.1 in
     let low : c.loop-row.row-index < length c.args.rows.now = omega (arith, c.loop-row-test.true) in
     record {
-      formed = nothing_handed r fault same _;
-      long = nothing_handed r fault same _;
-      reads = reads_then_handed g.S.Store _ _ _ tt c.loop-row.invariant.reads r fault same c.in_err-workunit.ensures.reads (λ other told world known ws are. told)
+      formed = nothing_handed _ _ same _;
+      long = nothing_handed _ _ same _;
+      reads = reads_then_handed g.S.Store _ _ _ tt c.loop-row.invariant.reads _ _ same c.in_err-workunit.ensures.reads (λ other told world known ws are. told)
           (λ world stands found can. storable_at c.args.rows.now can.1 world can.2 can.0 can.3 c.loop-row.row-index c.row-item.result low (sym c.row-item.is));
     }
 
@@ -42,7 +40,7 @@ returns-in_err-push-clause-reads g c =
     let r = c.from_residual-in_err-push.result in
     let told : IfErr r IsReadFault = search rules in
     let w = c.in_ok-workunit.workunit in
-    reads_also g.S.Store _ _ w r (never_broken r told) (fault_read r told) (reads_both g.S.Store _ _ _ tt c.loop-row.invariant.reads w c.in_ok-workunit.ensures.reads) (λ world stands found known ws are. search rules) (λ world stands found can. search rules)
+    reads_also g.S.Store _ _ _ _ (never_broken _ told) (fault_read _ told) (reads_both g.S.Store _ _ _ tt c.loop-row.invariant.reads w c.in_ok-workunit.ensures.reads) (λ world stands found known ws are. search rules) (λ world stands found can. search rules)
 
 pub returns-clause-reads : goal.returns-clause-reads
 returns-clause-reads g c =

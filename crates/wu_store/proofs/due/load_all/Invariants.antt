@@ -1,7 +1,6 @@
 use Rattle.wu_store.specs.Reads.{ReadsWorld}
-use Rattle.std.specs.Prelude.{⊤}
+use Rattle.std.specs.Prelude.{⊤, All}
 use Rattle.std.proofs.Common.{Ok, List, length, take, ◌≡◌}
-use Rattle.std.specs.Prelude.{All}
 use Rattle.wu_core.specs.Formed.{IsWorkunit}
 use Rattle.wu_core.specs.declared.workunit.Workunit.{Workunit}
 use Rattle.wu_store.specs.Due.{AreNumbersOf}

@@ -24,17 +24,15 @@ returns-clause-opens g c low = opens_then g.S.Store c.first_due_rows.new.conn c.
 
 pub returns-in_err-rows : goal.returns-in_err-rows
 returns-in_err-rows g c =
-    let fault = c.in_err-rows.field-0.0 in
-    let r = c.from_residual.result in
     let same = c.from_residual.ensures.1 in
     record {
-      opens = λ low. opens_handed r fault same g.S.Store c.first_due_rows.new.conn (c.in_err-rows.ensures.opens low);
-      formed = nothing_handed r fault same _;
-      few = nothing_handed r fault same _;
+      opens = λ low. opens_handed _ _ same g.S.Store c.first_due_rows.new.conn (c.in_err-rows.ensures.opens low);
+      formed = nothing_handed _ _ same _;
+      few = nothing_handed _ _ same _;
       reads = record {
-        asks = asks_handed g.S.Store _ _ r fault same c.in_err-rows.ensures.asks;
-        fault = fault_handed r fault same c.in_err-rows.ensures.fault;
-        found = λ clean world stood. match_handed r fault same _ c.in_err-rows.ensures.fault;
-        unrefused = λ clean world stood can limit. handed_on r fault same (c.in_err-rows.ensures.unrefused can.0 clean (marked world) (stood.1.queue (queued world stood.0)) limit);
+        asks = asks_handed g.S.Store _ _ _ _ same c.in_err-rows.ensures.asks;
+        fault = fault_handed _ _ same c.in_err-rows.ensures.fault;
+        found = λ clean world stood. match_handed _ _ same _ c.in_err-rows.ensures.fault;
+        unrefused = λ clean world stood can limit. handed_on _ _ same (c.in_err-rows.ensures.unrefused can.0 clean (marked world) (stood.1.queue (queued world stood.0)) limit);
       };
     }

@@ -45,23 +45,19 @@ returns-in_err-next-2-clause-opens g c =
 
 pub returns-in_err-add_marks : goal.returns-in_err-add_marks
 returns-in_err-add_marks g c =
-    let fault = c.in_err-add_marks.field-0.0 in
-    let r = c.from_residual-in_err-add_marks.result in
     let same = c.from_residual-in_err-add_marks.ensures.1 in
     let wants : IsReadFault c.in_err-add_marks.field-0.0 = inl c.in_err-add_marks.ensures.fault in
-    let told = read_handed r fault same wants in
+    let told = read_handed _ _ same wants in
     record {
-      opens = opens_made g.S.Store c.loop-next.conn r c.loop-next.invariant.opens;
-      reads = reads_also g.S.Store _ _ tt r (never_broken r told) (fault_read r told) c.loop-next.invariant.reads (λ world stands found early. match_handed r fault same _ (read_told fault wants))
-          (λ world stands found can. handed_on r fault same (λ is. let no : Memory ≡ NotAProject = sym c.in_err-add_marks.ensures.fault ∙ is in cc));
+      opens = opens_made g.S.Store c.loop-next.conn _ c.loop-next.invariant.opens;
+      reads = reads_also g.S.Store _ _ _ _ (never_broken _ told) (fault_read _ told) c.loop-next.invariant.reads (λ world stands found early. match_handed _ _ same _ (read_told _ wants))
+          (λ world stands found can. handed_on _ _ same (λ is. let no : Memory ≡ NotAProject = sym c.in_err-add_marks.ensures.fault ∙ is in cc));
     }
 
 pub returns-in_err-next : goal.returns-in_err-next
 returns-in_err-next g c =
-    let fault = c.in_err-next.field-0.0 in
-    let r = c.from_residual.result in
     let same = c.from_residual.ensures.1 in
     record {
-      opens = opens_handed r fault same g.S.Store c.first.new.conn c.in_err-next.ensures.opens;
-      reads = reads_handed g.S.Store _ _ r fault same c.in_err-next.ensures.reads (λ other told world early. told) (λ world stands storable. storable);
+      opens = opens_handed _ _ same g.S.Store c.first.new.conn c.in_err-next.ensures.opens;
+      reads = reads_handed g.S.Store _ _ _ _ same c.in_err-next.ensures.reads (λ other told world early. told) (λ world stands storable. storable);
     }

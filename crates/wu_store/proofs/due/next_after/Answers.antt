@@ -5,12 +5,10 @@ use Rattle.wu_store.proofs.due.next_after.Goals as goal
 
 pub returns-in_err-next : goal.returns-in_err-next
 returns-in_err-next g c =
-    let fault = c.in_err-next.field-0.0 in
-    let r = c.from_residual.result in
     let same = c.from_residual.ensures.1 in
     record {
-      shrinks = nothing_handed r fault same _;
-      reads = reads_handed g.S.Store _ _ r fault same c.in_err-next.ensures.reads (λ other told world early. told) (λ world stands can. can);
+      shrinks = nothing_handed _ _ same _;
+      reads = reads_handed g.S.Store _ _ _ _ same c.in_err-next.ensures.reads (λ other told world early. told) (λ world stands can. can);
     }
 
 pub returns-in_default-clause-reads : goal.returns-in_default-clause-reads

@@ -7,28 +7,25 @@ use Rattle.wu_store.proofs.due.present.Goals as goal
 
 pub returns-in_err-number : goal.returns-in_err-number
 returns-in_err-number g c =
-    let fault = c.in_err-number.field-0.0 in
     let r = c.from_residual.result in
     let same = c.from_residual.ensures.1 in
-    let refused = read_handed r fault same c.in_err-number.ensures.refused in
+    let refused = read_handed _ _ same c.in_err-number.ensures.refused in
     record {
-      formed = nothing_handed r fault same _;
+      formed = nothing_handed _ _ same _;
       reads = record {
-        asks = asks_none g.S.Store c.args.conn.now r (never_broken r refused);
-        fault = fault_read r refused;
-        found = λ clean world stands known w of. match_handed r fault same _ (read_told fault c.in_err-number.ensures.refused);
-        unrefused = λ clean world stands can limit. handed_on r fault same (number_read c.args.row.now can.1 world can.2 _ c.in_err-number.ensures);
+        asks = asks_none g.S.Store c.args.conn.now r (never_broken _ refused);
+        fault = fault_read _ refused;
+        found = λ clean world stands known w of. match_handed _ _ same _ (read_told _ c.in_err-number.ensures.refused);
+        unrefused = λ clean world stands can limit. handed_on _ _ same (number_read c.args.row.now can.1 world can.2 _ c.in_err-number.ensures);
       };
     }
 
 pub returns-in_err-workunit : goal.returns-in_err-workunit
 returns-in_err-workunit g c =
-    let fault = c.in_err-workunit.field-0.0 in
-    let r = c.from_residual-in_err-workunit.result in
     let same = c.from_residual-in_err-workunit.ensures.1 in
     record {
-      formed = nothing_handed r fault same _;
-      reads = reads_handed g.S.Store _ _ r fault same c.in_err-workunit.ensures.reads (λ other told world known w of. told)
+      formed = nothing_handed _ _ same _;
+      reads = reads_handed g.S.Store _ _ _ _ same c.in_err-workunit.ensures.reads (λ other told world known w of. told)
           (λ world stands can. loads_there c.args.row.now can.1 world can.2 c.in_ok-number.number (number_told c.args.row.now can.1 world can.2 c.in_ok-number.number c.in_ok-number.ensures) can.0 can.3);
     }
 

@@ -1,4 +1,4 @@
-use Rattle.wu_schema.proofs.Words.{Err, None, Ok, Text, [], ap, bound_value, import_kind_code, number, refl, state, sym, ◌∙◌, ◌∷◌, ◌≡◌}
+use Rattle.wu_schema.proofs.Words.{None, Ok, Text, [], ap, bound_value, import_kind_code, number, refl, state, sym, ◌∙◌, ◌∷◌, ◌≡◌}
 use Rattle.wu_schema.proofs.Parts.{Imports}
 use Rattle.wu_schema.proofs.InsertEffect.{also, no_more}
 use Rattle.wu_store.specs.Answers.{kept_of}
@@ -12,15 +12,13 @@ use Rattle.wu_store.proofs.loading.import_of.Goals as goal
 pub returns-in_err-rows : goal.returns-in_err-rows
 returns-in_err-rows g c =
     let q = c.in_err-rows.ensures in
-    let fault = c.in_err-rows.field-0.0 in
-    let r = c.from_residual.result in
     let same = c.from_residual.ensures.1 in
     let it = asked_all g.S.Store (question Imports (λ _. tt) import_asked import_fits (number (import_kind_code c.args.kind) ∷ Text c.args.name.now ∷ []) refl (λ _. refl)) c.args.conn.now c.query.new.conn _
     (also (ap bound_value c.params-to_sql.ensures ∙ ap number c.code.ensures) (also (ap bound_value c.params-to_sql-2.ensures ∙ ap (λ t. Text t) c.as_str.ensures) no_more)) (λ rows world. rows ≡ kept_of c.args.kind c.args.name.now world)
-    (λ rows h world s. import_found (state g.S.Store c.args.conn.now) (state g.S.Store c.query.new.conn) world s c.args.kind c.args.name.now rows h) (Err fault) q.asks q.opens q.shows q.fails q.told in
+    (λ rows h world s. import_found (state g.S.Store c.args.conn.now) (state g.S.Store c.query.new.conn) world s c.args.kind c.args.name.now rows h) _ q.asks q.opens q.shows q.fails q.told in
     record {
-      opens = opens_handed r fault same g.S.Store c.query.new.conn it.opens;
-      reads = reads_handed g.S.Store _ _ r fault same it.reads (λ other told world. told) (λ world stands has. tt);
+      opens = opens_handed _ _ same g.S.Store c.query.new.conn it.opens;
+      reads = reads_handed g.S.Store _ _ _ _ same it.reads (λ other told world. told) (λ world stands has. tt);
     }
 
 pub returns-in_err-import_from-in-Some : goal.returns-in_err-import_from-in-Some
@@ -29,15 +27,13 @@ returns-in_err-import_from-in-Some g c =
     let asked = asked_all g.S.Store (question Imports (λ _. tt) import_asked import_fits (number (import_kind_code c.args.kind) ∷ Text c.args.name.now ∷ []) refl (λ _. refl)) c.args.conn.now c.query.new.conn _
     (also (ap bound_value c.params-to_sql.ensures ∙ ap number c.code.ensures) (also (ap bound_value c.params-to_sql-2.ensures ∙ ap (λ t. Text t) c.as_str.ensures) no_more)) (λ rows world. rows ≡ kept_of c.args.kind c.args.name.now world)
     (λ rows h world s. import_found (state g.S.Store c.args.conn.now) (state g.S.Store c.query.new.conn) world s c.args.kind c.args.name.now rows h) (Ok c.in_ok-rows.rows) q.asks q.opens q.shows q.fails q.told in
-    let fault = c.in_err-import_from-in-Some.field-0.0 in
-    let r = c.from_residual-in_err-import_from-in-Some.result in
     let same = c.from_residual-in_err-import_from-in-Some.ensures.1 in
-    let refused = read_handed r fault same c.in_err-import_from-in-Some.ensures.refused in
+    let refused = read_handed _ _ same c.in_err-import_from-in-Some.ensures.refused in
     record {
-      opens = opens_made g.S.Store c.query.new.conn r asked.opens;
-      reads = reads_also g.S.Store _ _ c.in_ok-rows.rows r (never_broken r refused) (fault_read r refused) asked.reads (λ world stands found. match_handed r fault same _ (read_told fault c.in_err-import_from-in-Some.ensures.refused)) (λ world stands found has.
+      opens = opens_made g.S.Store c.query.new.conn _ asked.opens;
+      reads = reads_also g.S.Store _ _ _ _ (never_broken _ refused) (fault_read _ refused) asked.reads (λ world stands found. match_handed _ _ same _ (read_told _ c.in_err-import_from-in-Some.ensures.refused)) (λ world stands found has.
           let first = one_first c.deref.result.now c.in-Some.row.now (sym c.first.ensures.value ∙ ap option_copied c.in-Some.is) in
-          handed_on r fault same (import_read c.args.kind c.args.name.now world c.in-Some.row.now first.0 (sym (c.deref.ensures.value ∙ found) ∙ first.1) _ c.in_err-import_from-in-Some.ensures has));
+          handed_on _ _ same (import_read c.args.kind c.args.name.now world c.in-Some.row.now first.0 (sym (c.deref.ensures.value ∙ found) ∙ first.1) _ c.in_err-import_from-in-Some.ensures has));
     }
 
 pub returns-in-Some : goal.returns-in-Some

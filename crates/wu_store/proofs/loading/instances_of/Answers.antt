@@ -1,4 +1,4 @@
-use Rattle.wu_schema.proofs.Words.{Err, Ok, [], number, refl, state, ◌∙◌, ◌∷◌, ◌≡◌}
+use Rattle.wu_schema.proofs.Words.{Ok, [], number, refl, state, ◌∙◌, ◌∷◌, ◌≡◌}
 use Rattle.wu_schema.proofs.Parts.{Instances}
 use Rattle.wu_schema.proofs.InsertEffect.{also, no_more}
 use Rattle.wu_store.specs.Answers.{instance_rows_of}
@@ -12,25 +12,21 @@ use Rattle.wu_store.proofs.loading.instances_of.Goals as goal
 pub returns-in_err-key : goal.returns-in_err-key
 returns-in_err-key g c =
     let key = c.in_err-key.ensures in
-    let fault = c.in_err-key.field-0.0 in
-    let r = c.from_residual.result in
     let same = c.from_residual.ensures.1 in
     record {
-      stored = nothing_handed r fault same _;
-      reads = reads_handed g.S.Store _ _ r fault same (reads_unkeyed g.S.Store _ c.args.workunit fault key.refused key.beyond) (λ other told world. told) (λ world stands has. has.0);
+      stored = nothing_handed _ _ same _;
+      reads = reads_handed g.S.Store _ _ _ _ same (reads_unkeyed g.S.Store _ c.args.workunit _ key.refused key.beyond) (λ other told world. told) (λ world stands has. has.0);
     }
 
 pub returns-in_err-rows : goal.returns-in_err-rows
 returns-in_err-rows g c =
     let q = c.in_err-rows.ensures in
-    let fault = c.in_err-rows.field-0.0 in
-    let r = c.from_residual-in_err-rows.result in
     let same = c.from_residual-in_err-rows.ensures.1 in
     let it = asked_all g.S.Store (question Instances (λ _. tt) instances_asked instances_fits (number c.args.workunit ∷ []) refl (λ _. refl)) c.args.conn.now c.query.new.conn _ (also (sent_number c.args.workunit c.params-to_sql.ensures c.in_ok-key.ensures.value c.in_ok-key.ensures.within) no_more) (λ rows world. rows ≡ instance_rows_of c.args.workunit world)
-    (λ rows h world s. answers.instances_found (state g.S.Store c.args.conn.now) (state g.S.Store c.query.new.conn) world s c.args.workunit rows h) (Err fault) q.asks q.opens q.shows q.fails q.told in
+    (λ rows h world s. answers.instances_found (state g.S.Store c.args.conn.now) (state g.S.Store c.query.new.conn) world s c.args.workunit rows h) _ q.asks q.opens q.shows q.fails q.told in
     record {
-      stored = nothing_handed r fault same _;
-      reads = reads_handed g.S.Store _ _ r fault same it.reads (λ other told world. told) (λ world stands has. tt);
+      stored = nothing_handed _ _ same _;
+      reads = reads_handed g.S.Store _ _ _ _ same it.reads (λ other told world. told) (λ world stands has. tt);
     }
 
 pub returns : goal.returns
@@ -42,5 +38,5 @@ returns g c =
     (λ rows h world s. answers.instances_found (state g.S.Store c.args.conn.now) (state g.S.Store c.query.new.conn) world s c.args.workunit rows h) (Ok c.in_ok-rows.rows) q.asks q.opens q.shows q.fails q.told in
     record {
       stored = instances_stored _ r reads;
-      reads = reads_also g.S.Store _ _ c.in_ok-rows.rows r (never_broken r reads.refused) (fault_read r reads.refused) it.reads (λ world stands found. instances_found c.args.workunit world _ (c.deref.ensures.value ∙ found) r reads) (λ world stands found has. instances_read c.args.workunit world _ (c.deref.ensures.value ∙ found) r reads has.1);
+      reads = reads_also g.S.Store _ _ _ _ (never_broken _ reads.refused) (fault_read _ reads.refused) it.reads (λ world stands found. instances_found c.args.workunit world _ (c.deref.ensures.value ∙ found) r reads) (λ world stands found has. instances_read c.args.workunit world _ (c.deref.ensures.value ∙ found) r reads has.1);
     }

@@ -1,4 +1,4 @@
-use Rattle.wu_schema.proofs.Words.{Err, Ok, Workunit, [], arith, number, refl, state, ◌∷◌, nat_lt}
+use Rattle.wu_schema.proofs.Words.{Workunit, [], arith, number, refl, state, ◌∷◌, nat_lt}
 use Rattle.wu_schema.proofs.Parts.{Workunits}
 use Rattle.wu_schema.proofs.InsertEffect.{also, no_more}
 use Rattle.wu_store.specs.Answers.{row_above}
@@ -12,38 +12,32 @@ use Rattle.wu_store.proofs.loading.load_above.Goals as goal
 pub returns-in_err-key : goal.returns-in_err-key
 returns-in_err-key g c =
     let key = c.in_err-key.ensures in
-    let fault = c.in_err-key.field-0.0 in
-    let r = c.from_residual.result in
     let same = c.from_residual.ensures.1 in
     record {
       opens = λ low. absurd (omega (arith, low, key.beyond));
-      formed = nothing_handed r fault same _;
-      reads = reads_handed g.S.Store _ _ r fault same (reads_unkeyed g.S.Store _ c.args.number fault key.refused key.beyond) (λ other told world early. told) (λ world stands can. can.1);
+      formed = nothing_handed _ _ same _;
+      reads = reads_handed g.S.Store _ _ _ _ same (reads_unkeyed g.S.Store _ c.args.number _ key.refused key.beyond) (λ other told world early. told) (λ world stands can. can.1);
     }
 
 pub returns-in_err-row : goal.returns-in_err-row
 returns-in_err-row g c =
     let q = c.in_err-row.ensures in
-    let fault = c.in_err-row.field-0.0 in
-    let r = c.from_residual-in_err-row.result in
     let same = c.from_residual-in_err-row.ensures.1 in
     let it = asked_row g.S.Store (question Workunits (λ _. tt) above_asked above_fits (number c.args.number ∷ []) refl (λ _. refl)) c.args.conn.now c.ask_row.new.conn _ (also (sent_number c.args.number c.params-to_sql.ensures c.in_ok-key.ensures.value c.in_ok-key.ensures.within) no_more) (row_above c.args.number)
-    (λ rows h world s. above_found (state g.S.Store c.args.conn.now) (state g.S.Store c.ask_row.new.conn) world s c.args.number rows h) (Err fault) q.asks q.opens q.shows q.fails q.told in
+    (λ rows h world s. above_found (state g.S.Store c.args.conn.now) (state g.S.Store c.ask_row.new.conn) world s c.args.number rows h) _ q.asks q.opens q.shows q.fails q.told in
     record {
-      opens = λ low. opens_handed r fault same g.S.Store c.ask_row.new.conn it.opens;
-      formed = nothing_handed r fault same _;
-      reads = reads_handed g.S.Store _ _ r fault same it.reads (λ other told world early. told) (λ world stands can. tt);
+      opens = λ low. opens_handed _ _ same g.S.Store c.ask_row.new.conn it.opens;
+      formed = nothing_handed _ _ same _;
+      reads = reads_handed g.S.Store _ _ _ _ same it.reads (λ other told world early. told) (λ world stands can. tt);
     }
 
 pub returns : goal.returns
 returns g c =
     let q = c.in_ok-row.ensures in
-    let row = c.in_ok-row.row in
-    let test = λ (w : Workunit). nat_lt c.args.number w.number in
     let it = asked_row g.S.Store (question Workunits (λ _. tt) above_asked above_fits (number c.args.number ∷ []) refl (λ _. refl)) c.args.conn.now c.ask_row.new.conn _ (also (sent_number c.args.number c.params-to_sql.ensures c.in_ok-key.ensures.value c.in_ok-key.ensures.within) no_more) (row_above c.args.number)
-    (λ rows h world s. above_found (state g.S.Store c.args.conn.now) (state g.S.Store c.ask_row.new.conn) world s c.args.number rows h) (Ok row) q.asks q.opens q.shows q.fails q.told in
+    (λ rows h world s. above_found (state g.S.Store c.args.conn.now) (state g.S.Store c.ask_row.new.conn) world s c.args.number rows h) _ q.asks q.opens q.shows q.fails q.told in
     record {
       opens = λ low. opens_then g.S.Store c.ask_row.new.conn c.loaded.new.conn it.opens c.loaded.result c.loaded.ensures.reads.asks;
       formed = c.loaded.ensures.formed;
-      reads = reads_can (λ world stands can. can.2) (early_then g.S.Store _ _ _ test row c.loaded.result it.reads c.loaded.ensures.reads);
+      reads = reads_can (λ world stands can. can.2) (early_then g.S.Store _ _ _ (λ (w : Workunit). nat_lt c.args.number w.number) _ _ it.reads c.loaded.ensures.reads);
     }

@@ -6,22 +6,18 @@ use Rattle.wu_store.proofs.loading.load_early.Goals as goal
 pub returns-in_err-row : goal.returns-in_err-row
 returns-in_err-row g c =
     let it = c.in_err-row.ensures in
-    let fault = c.in_err-row.field-0.0 in
-    let r = c.from_residual.result in
     let same = c.from_residual.ensures.1 in
     record {
-      opens = λ low. opens_handed r fault same g.S.Store c.numbered_row.new.conn (it.opens low);
-      formed = nothing_handed r fault same _;
-      reads = reads_handed g.S.Store _ _ r fault same it.reads (λ other told world known. told) (λ world stands can. can.1);
+      opens = λ low. opens_handed _ _ same g.S.Store c.numbered_row.new.conn (it.opens low);
+      formed = nothing_handed _ _ same _;
+      reads = reads_handed g.S.Store _ _ _ _ same it.reads (λ other told world known. told) (λ world stands can. can.1);
     }
 
 pub returns : goal.returns
 returns g c =
     let it = c.in_ok-row.ensures in
-    let row = c.in_ok-row.row in
-    let test = λ (w : Workunit). w.number == c.args.number in
     record {
       opens = λ low. opens_then g.S.Store c.numbered_row.new.conn c.loaded.new.conn (it.opens low) c.loaded.result c.loaded.ensures.reads.asks;
       formed = c.loaded.ensures.formed;
-      reads = reads_can (λ world stands can. can.2) (early_then g.S.Store _ _ _ test row c.loaded.result it.reads c.loaded.ensures.reads);
+      reads = reads_can (λ world stands can. can.2) (early_then g.S.Store _ _ _ (λ (w : Workunit). w.number == c.args.number) _ _ it.reads c.loaded.ensures.reads);
     }

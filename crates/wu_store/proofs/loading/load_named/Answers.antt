@@ -1,4 +1,4 @@
-use Rattle.wu_schema.proofs.Words.{Err, Ok, Text, Workunit, [], ap, bound_value, bytes_eq, refl, state, ◌∙◌, ◌∷◌}
+use Rattle.wu_schema.proofs.Words.{Text, Workunit, [], ap, bound_value, bytes_eq, refl, state, ◌∙◌, ◌∷◌}
 use Rattle.wu_schema.proofs.Parts.{Workunits}
 use Rattle.wu_schema.proofs.InsertEffect.{also, no_more}
 use Rattle.wu_store.specs.Answers.{row_named}
@@ -11,26 +11,22 @@ use Rattle.wu_store.proofs.loading.load_named.Goals as goal
 pub returns-in_err-row : goal.returns-in_err-row
 returns-in_err-row g c =
     let q = c.in_err-row.ensures in
-    let fault = c.in_err-row.field-0.0 in
-    let r = c.from_residual.result in
     let same = c.from_residual.ensures.1 in
     let it = asked_row g.S.Store (question Workunits (λ _. tt) named_asked named_fits (Text c.args.name.now ∷ []) refl (λ _. refl)) c.args.conn.now c.ask_row.new.conn _ (also (ap bound_value c.params-to_sql.ensures ∙ ap (λ t. Text t) c.as_str.ensures) no_more) (row_named c.args.name.now)
-    (λ rows h world s. named_found (state g.S.Store c.args.conn.now) (state g.S.Store c.ask_row.new.conn) world s c.args.name.now rows h) (Err fault) q.asks q.opens q.shows q.fails q.told in
+    (λ rows h world s. named_found (state g.S.Store c.args.conn.now) (state g.S.Store c.ask_row.new.conn) world s c.args.name.now rows h) _ q.asks q.opens q.shows q.fails q.told in
     record {
-      opens = opens_handed r fault same g.S.Store c.ask_row.new.conn it.opens;
-      formed = nothing_handed r fault same _;
-      reads = reads_handed g.S.Store _ _ r fault same it.reads (λ other told world known. told) (λ world stands can. tt);
+      opens = opens_handed _ _ same g.S.Store c.ask_row.new.conn it.opens;
+      formed = nothing_handed _ _ same _;
+      reads = reads_handed g.S.Store _ _ _ _ same it.reads (λ other told world known. told) (λ world stands can. tt);
     }
 
 pub returns : goal.returns
 returns g c =
     let q = c.in_ok-row.ensures in
-    let row = c.in_ok-row.row in
-    let test = λ (w : Workunit). bytes_eq w.name c.args.name.now in
     let it = asked_row g.S.Store (question Workunits (λ _. tt) named_asked named_fits (Text c.args.name.now ∷ []) refl (λ _. refl)) c.args.conn.now c.ask_row.new.conn _ (also (ap bound_value c.params-to_sql.ensures ∙ ap (λ t. Text t) c.as_str.ensures) no_more) (row_named c.args.name.now)
-    (λ rows h world s. named_found (state g.S.Store c.args.conn.now) (state g.S.Store c.ask_row.new.conn) world s c.args.name.now rows h) (Ok row) q.asks q.opens q.shows q.fails q.told in
+    (λ rows h world s. named_found (state g.S.Store c.args.conn.now) (state g.S.Store c.ask_row.new.conn) world s c.args.name.now rows h) _ q.asks q.opens q.shows q.fails q.told in
     record {
       opens = opens_then g.S.Store c.ask_row.new.conn c.whole.new.conn it.opens c.whole.result c.whole.ensures.reads.asks;
       formed = c.whole.ensures.formed;
-      reads = load_then g.S.Store _ _ _ test row c.whole.result it.reads c.whole.ensures.reads;
+      reads = load_then g.S.Store _ _ _ (λ (w : Workunit). bytes_eq w.name c.args.name.now) _ _ it.reads c.whole.ensures.reads;
     }

@@ -28,12 +28,10 @@ returns-in_err-workunit-clause-reads g c = record {
 
 pub returns-in_err-workunit-2 : goal.returns-in_err-workunit-2
 returns-in_err-workunit-2 g c =
-    let fault = c.in_err-workunit-2.field-0.0 in
-    let r = c.from_residual-in_err-workunit-2.result in
     let same = c.from_residual-in_err-workunit-2.ensures.1 in
     record {
-      formed = nothing_handed r fault same _;
-      reads = reads_handed g.S.Store _ _ r fault same c.in_err-workunit-2.ensures.reads (λ other told world found of. told) (λ world stands can.
+      formed = nothing_handed _ _ same _;
+      reads = reads_handed g.S.Store _ _ _ _ same c.in_err-workunit-2.ensures.reads (λ other told world found of. told) (λ world stands can.
           let it = some_there c.args.row c.in-Some.row c.in-Some.is can.0 world can.1 in
           instances_can c.in-Some.row world it.0 it.2 c.in_ok-workunit.workunit c.in_ok-workunit.ensures (rw it.1 at can.2));
     }

@@ -1,4 +1,4 @@
-use Rattle.wu_schema.proofs.Words.{Err, Ok, [], refl, state}
+use Rattle.wu_schema.proofs.Words.{Ok, [], refl, state}
 use Rattle.wu_schema.proofs.Parts.{Grants}
 use Rattle.wu_store.specs.Answers.{last_grant}
 use Rattle.wu_store.proofs.AskLemmas.{asked_row, fault_read, nothing_handed, opens_handed, opens_made, reads_handed, reads_also, never_broken}
@@ -9,15 +9,13 @@ use Rattle.wu_store.proofs.loading.next_grant_place.Goals as goal
 pub returns-in_err-last : goal.returns-in_err-last
 returns-in_err-last g c =
     let q = c.in_err-last.ensures in
-    let fault = c.in_err-last.field-0.0 in
-    let r = c.from_residual.result in
     let same = c.from_residual.ensures.1 in
     let it = asked_row g.S.Store (last_question Grants (λ _. tt) grant_text grant_fits) c.args.conn.now c.ask_row.new.conn [] refl last_grant
-    (λ rows h world s. grant_found (state g.S.Store c.args.conn.now) (state g.S.Store c.ask_row.new.conn) world s rows h) (Err fault) q.asks q.opens q.shows q.fails q.told in
+    (λ rows h world s. grant_found (state g.S.Store c.args.conn.now) (state g.S.Store c.ask_row.new.conn) world s rows h) _ q.asks q.opens q.shows q.fails q.told in
     record {
-      within = nothing_handed r fault same _;
-      opens = opens_handed r fault same g.S.Store c.ask_row.new.conn it.opens;
-      reads = reads_handed g.S.Store _ _ r fault same it.reads (λ other told world. told) (λ world stands any. tt);
+      within = nothing_handed _ _ same _;
+      opens = opens_handed _ _ same g.S.Store c.ask_row.new.conn it.opens;
+      reads = reads_handed g.S.Store _ _ _ _ same it.reads (λ other told world. told) (λ world stands any. tt);
     }
 
 pub returns : goal.returns
@@ -30,6 +28,6 @@ returns g c =
     (λ rows h world s. grant_found (state g.S.Store c.args.conn.now) (state g.S.Store c.ask_row.new.conn) world s rows h) (Ok last) q.asks q.opens q.shows q.fails q.told in
     record {
       within = c.place_behind.ensures.within;
-      opens = opens_made g.S.Store c.ask_row.new.conn r it.opens;
-      reads = reads_also g.S.Store _ _ last r (never_broken r reads.refused) (fault_read r reads.refused) it.reads (λ world stands found. place_known world.grants last r found reads) (λ world stands found any. place_read world.grants last r found reads);
+      opens = opens_made g.S.Store c.ask_row.new.conn _ it.opens;
+      reads = reads_also g.S.Store _ _ _ _ (never_broken _ reads.refused) (fault_read _ reads.refused) it.reads (λ world stands found. place_known world.grants last r found reads) (λ world stands found any. place_read world.grants last r found reads);
     }

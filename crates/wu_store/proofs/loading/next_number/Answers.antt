@@ -1,4 +1,4 @@
-use Rattle.wu_schema.proofs.Words.{Err, Ok, Some, [], inr, refl, state, sym, ◌∙◌, ◌≡◌}
+use Rattle.wu_schema.proofs.Words.{Err, Some, [], inr, refl, state, sym, ◌∙◌, ◌≡◌}
 use Rattle.wu_schema.proofs.Parts.{Project}
 use Rattle.wu_core.specs.declared.fault.Fault.TheVariants.{NotAProject}
 use Rattle.wu_store.proofs.AskLemmas.{asked_row, fault_read, nothing_handed, opens_handed, opens_made, question, reads_handed, reads_also, never_broken}
@@ -12,29 +12,26 @@ use Rattle.wu_store.proofs.loading.next_number.Goals as goal
 pub returns-in_err-row : goal.returns-in_err-row
 returns-in_err-row g c =
     let q = c.in_err-row.ensures in
-    let fault = c.in_err-row.field-0.0 in
-    let r = c.from_residual.result in
     let same = c.from_residual.ensures.1 in
     let it = asked_row g.S.Store (question Project (λ _. tt) next_asked next_fits [] refl (λ _. refl)) c.args.conn.now c.ask_row.new.conn [] refl (λ world. Some (next_row world))
-    (λ found h world s. next_found (state g.S.Store c.args.conn.now) (state g.S.Store c.ask_row.new.conn) world s found h) (Err fault) q.asks q.opens q.shows q.fails q.told in
+    (λ found h world s. next_found (state g.S.Store c.args.conn.now) (state g.S.Store c.ask_row.new.conn) world s found h) _ q.asks q.opens q.shows q.fails q.told in
     record {
-      within = nothing_handed r fault same _;
-      opens = opens_handed r fault same g.S.Store c.ask_row.new.conn it.opens;
-      reads = reads_handed g.S.Store _ _ r fault same it.reads (λ other told world. told) (λ world stands has. tt);
+      within = nothing_handed _ _ same _;
+      opens = opens_handed _ _ same g.S.Store c.ask_row.new.conn it.opens;
+      reads = reads_handed g.S.Store _ _ _ _ same it.reads (λ other told world. told) (λ world stands has. tt);
     }
 
 pub returns-in-Some : goal.returns-in-Some
 returns-in-Some g c =
     let q = c.in_ok-row.ensures in
-    let row = c.in_ok-row.row in
     let asked = asked_row g.S.Store (question Project (λ _. tt) next_asked next_fits [] refl (λ _. refl)) c.args.conn.now c.ask_row.new.conn [] refl (λ world. Some (next_row world))
-    (λ found h world s. next_found (state g.S.Store c.args.conn.now) (state g.S.Store c.ask_row.new.conn) world s found h) (Ok row) q.asks q.opens q.shows q.fails q.told in
+    (λ found h world s. next_found (state g.S.Store c.args.conn.now) (state g.S.Store c.ask_row.new.conn) world s found h) _ q.asks q.opens q.shows q.fails q.told in
     let r = c.next_number_from.result in
     let reads = c.next_number_from.ensures.reads in
     record {
       within = next_within c.in-Some.row r reads;
-      opens = opens_made g.S.Store c.ask_row.new.conn r asked.opens;
-      reads = reads_also g.S.Store _ _ row r (never_broken r reads.refused) (fault_read r reads.refused) asked.reads (λ world stands found.
+      opens = opens_made g.S.Store c.ask_row.new.conn _ asked.opens;
+      reads = reads_also g.S.Store _ _ _ _ (never_broken _ reads.refused) (fault_read _ reads.refused) asked.reads (λ world stands found.
           let row_is : c.in-Some.row ≡ next_row world = same_some (sym c.in-Some.is ∙ found) in
           next_is world.next_number c.in-Some.row r row_is reads) (λ world stands found has.
           let row_is : c.in-Some.row ≡ next_row world = same_some (sym c.in-Some.is ∙ found) in
@@ -44,11 +41,10 @@ returns-in-Some g c =
 pub returns-in-None : goal.returns-in-None
 returns-in-None g c =
     let q = c.in_ok-row.ensures in
-    let row = c.in_ok-row.row in
     let asked = asked_row g.S.Store (question Project (λ _. tt) next_asked next_fits [] refl (λ _. refl)) c.args.conn.now c.ask_row.new.conn [] refl (λ world. Some (next_row world))
-    (λ found h world s. next_found (state g.S.Store c.args.conn.now) (state g.S.Store c.ask_row.new.conn) world s found h) (Ok row) q.asks q.opens q.shows q.fails q.told in
+    (λ found h world s. next_found (state g.S.Store c.args.conn.now) (state g.S.Store c.ask_row.new.conn) world s found h) _ q.asks q.opens q.shows q.fails q.told in
     record {
       within = tt;
       opens = λ clean. inr (asked.opens clean);
-      reads = reads_also g.S.Store _ _ row (Err NotAProject) (λ is. absurd cc) (inr (inr refl)) asked.reads (λ world stands found. inr (inr refl)) (λ world stands found has refused. absurd (let no = sym c.in-None.is ∙ found in cc));
+      reads = reads_also g.S.Store _ _ _ (Err NotAProject) (λ is. absurd cc) (inr (inr refl)) asked.reads (λ world stands found. inr (inr refl)) (λ world stands found has refused. absurd (let no = sym c.in-None.is ∙ found in cc));
     }

@@ -11,12 +11,10 @@ use Rattle.wu_store.proofs.loading.numbered_row.Goals as goal
 pub returns-in_err-key : goal.returns-in_err-key
 returns-in_err-key g c =
     let key = c.in_err-key.ensures in
-    let fault = c.in_err-key.field-0.0 in
-    let r = c.from_residual.result in
     let same = c.from_residual.ensures.1 in
     record {
       opens = λ low. absurd (omega (arith, low, key.beyond));
-      reads = reads_handed g.S.Store _ _ r fault same (reads_unkeyed g.S.Store _ c.args.number fault key.refused key.beyond) (λ other told world. tt) (λ world stands low. low);
+      reads = reads_handed g.S.Store _ _ _ _ same (reads_unkeyed g.S.Store _ c.args.number _ key.refused key.beyond) (λ other told world. tt) (λ world stands low. low);
     }
 
 pub returns : goal.returns

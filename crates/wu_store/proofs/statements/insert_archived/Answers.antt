@@ -1,10 +1,13 @@
-use Rattle.wu_schema.proofs.Words.{Blob, Text, ap, archived_cells, bound_value, number, state, ◌∙◌, ◌∷◌, ◌≡◌, Executes, HasCleanDisk, Ok, OnOk, ℕ}
-use Rattle.wu_store.proofs.InsertTexts.{archived_put}
+use Rattle.wu_schema.proofs.Words.{Blob, Text, ap, archived_cells, bound_value, number, ◌∙◌, ◌∷◌, ◌≡◌}
+use Rattle.wu_schema.specs.Made.{archived_table}
+use Rattle.wu_store.proofs.InsertTexts.{archived_fits, archived_put}
 use Rattle.wu_schema.proofs.InsertEffect.{also, no_more}
-use Rattle.wu_schema.proofs.CallLemmas.{ok_on, ran_as}
-use Rattle.wu_store.proofs.ChangeLemmas.{sent_number, bound_number_or_null, puts_archived}
-use Rattle.wu_store.proofs.QueueLemmas.{archived_leaves}
-use Rattle.wu_store.proofs.SpareLemmas.{spares_archived}
+use Rattle.wu_schema.proofs.CallLemmas.{ran_as}
+use Rattle.wu_schema.proofs.OthersLemmas.{insert_spares, ours_archived}
+use Rattle.wu_schema.proofs.Parts.{Archive}
+use Rattle.wu_schema.proofs.QueueLemmas.{queue_beside}
+use Rattle.wu_store.proofs.ChangeLemmas.{bound_number_or_null, put_archived, sent_number}
+use Rattle.wu_store.proofs.ListedLemmas.{stands_with_archived}
 use Rattle.wu_store.proofs.statements.insert_archived.Goals as goal
 
 pub returns : goal.returns
@@ -17,13 +20,9 @@ returns g c =
     (also (ap bound_value c.params-to_sql-5.ensures ∙ bound_number_or_null a.canonical)
     (also (ap bound_value c.params-to_sql-6.ensures ∙ ap (λ t. Blob t) c.as_slice.ensures)
     (also (sent_number a.done_at c.params-to_sql-7.ensures c.seconds-done_at.ensures.value c.seconds-done_at.ensures.within) no_more)))))) in
-    let old = state g.S.Store c.args.tx.now.conn.now in
-    let new = state g.S.Store c.execute.new.tx.conn.now in
-    let ran : HasCleanDisk new → OnOk c.execute.result ((count : ℕ) × Executes archived_put.text (number c.args.seq ∷ archived_cells a) old new (Ok count)) =
-    λ clean. ran_as old new archived_put.text _ _ given c.execute.result (c.execute.ensures.ran clean) (λ count ran. (count, ran)) in
     record {
       writes = c.execute.ensures.writes;
-      puts = λ clean. ok_on c.execute.result _ _ (λ it world s. puts_archived old new world s c.args.seq a it.0 it.1) (ran clean);
-      queue = λ clean. ok_on c.execute.result _ _ (λ it world marked s q. archived_leaves old new world s marked q c.args.seq a it.0 it.1) (ran clean);
-      spares = λ clean. ok_on c.execute.result _ _ (λ it. spares_archived (number c.args.seq ∷ archived_cells a) old new it.0 it.1) (ran clean);
+      puts = λ clean. ran_as _ _ archived_put.text _ _ given c.execute.result (c.execute.ensures.ran clean) (λ count ran world s. stands_with_archived _ _ world s c.args.seq a (put_archived _ _ world s c.args.seq a count ran));
+      queue = λ clean. ran_as _ _ archived_put.text _ _ given c.execute.result (c.execute.ensures.ran clean) (λ count ran world marked s q. queue_beside _ world s marked q _ Archive tt _ (put_archived _ _ world s c.args.seq a count ran));
+      spares = λ clean. ran_as _ _ archived_put.text _ _ given c.execute.result (c.execute.ensures.ran clean) (insert_spares archived_table.0 archived_table.1 archived_put archived_fits (λ tree. ours_archived) _ _ _);
     }

@@ -8,10 +8,7 @@ use Rattle.wu_views.proofs.counts.count_imports.Goals as goal
 
 pub returns : goal.returns
 returns g c =
-    let old = c.args.conn.now in
-    let new = c.ask_count.new.conn in
     let q = c.ask_count.ensures in
-    let r = c.ask_count.result in
-    let it = asked_count g.S.Store (count_question Imports (λ _. tt) (counting COUNT_IMPORTS.now) imports_fit [] refl (λ _. refl)) old new [] refl import_count
-    (λ rows h world s. imports_counted (state g.S.Store old) (state g.S.Store new) world s rows h) r q.asks q.opens q.shows q.fails q.told in
+    let it = asked_count g.S.Store (count_question Imports (λ _. tt) (counting COUNT_IMPORTS.now) imports_fit [] refl (λ _. refl)) c.args.conn.now c.ask_count.new.conn [] refl import_count
+    (λ rows h world s. imports_counted (state g.S.Store c.args.conn.now) (state g.S.Store c.ask_count.new.conn) world s rows h) _ q.asks q.opens q.shows q.fails q.told in
     record { opens = it.opens; reads = it.reads }

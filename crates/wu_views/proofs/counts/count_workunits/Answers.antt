@@ -8,10 +8,7 @@ use Rattle.wu_views.proofs.counts.count_workunits.Goals as goal
 
 pub returns : goal.returns
 returns g c =
-    let old = c.args.conn.now in
-    let new = c.ask_count.new.conn in
     let q = c.ask_count.ensures in
-    let r = c.ask_count.result in
-    let it = asked_count g.S.Store (class_count_question WorkClasses (λ version known. known) (counting COUNT_WORKUNITS.now) workunits_fit [] refl (λ _. refl)) old new [] refl workunit_count
-    (λ rows h world stood. workunits_counted (state g.S.Store old) (state g.S.Store new) world stood.1 rows stood.0 h) r q.asks q.opens q.shows q.fails q.told in
+    let it = asked_count g.S.Store (class_count_question WorkClasses (λ version known. known) (counting COUNT_WORKUNITS.now) workunits_fit [] refl (λ _. refl)) c.args.conn.now c.ask_count.new.conn [] refl workunit_count
+    (λ rows h world stood. workunits_counted (state g.S.Store c.args.conn.now) (state g.S.Store c.ask_count.new.conn) world stood.1 rows stood.0 h) _ q.asks q.opens q.shows q.fails q.told in
     record { opens = it.opens; reads = it.reads }

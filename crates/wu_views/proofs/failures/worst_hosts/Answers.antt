@@ -2,7 +2,8 @@ use Rattle.std.proofs.Common.{ap, rules, take, ◌∙◌}
 use Rattle.std.specs.Prelude.{IfErr}
 use Rattle.wu_schema.specs.Reading.{IsReadFault}
 use Rattle.wu_store.proofs.AskLemmas.{asks_row, reads_handed, reads_made}
-use Rattle.wu_views.specs.Failures.{most_hosts, worst_first}
+use Rattle.wu_views.specs.Failures.{worst_first}
+use Rattle.wu_views.specs.declared.failures.TheConstants.{MOST_HOSTS}
 use Rattle.wu_views.proofs.failures.worst_hosts.Goals as goal
 
 pub returns-in_err-hosts-clause-reads : goal.returns-in_err-hosts-clause-reads
@@ -21,4 +22,4 @@ returns-in_err-worst-clause-reads g c =
 
 pub returns-clause-reads : goal.returns-clause-reads
 returns-clause-reads g c =
-    reads_made g.S.Store _ _ c.in_ok-hosts.hosts _ c.in_ok-hosts.ensures.reads (λ world stood found. c.in_ok-worst.ensures ∙ ap (λ hs. take most_hosts (worst_first hs)) found)
+    reads_made g.S.Store _ _ c.in_ok-hosts.hosts _ c.in_ok-hosts.ensures.reads (λ world stood found. c.in_ok-worst.ensures ∙ ap (λ hs. take MOST_HOSTS (worst_first hs)) found)

@@ -1,6 +1,7 @@
 use Rattle.std.proofs.Common.{List, [], ap, append_assoc, rules, subst, take, ◌++◌, ◌∙◌, ◌∷◌, ◌≡◌}
 use Rattle.std.specs.List.{insert}
-use Rattle.wu_views.specs.Failures.{most_hosts, with_host_failures}
+use Rattle.wu_views.specs.Failures.{with_host_failures}
+use Rattle.wu_views.specs.declared.failures.TheConstants.{MOST_HOSTS}
 use Rattle.wu_views.specs.declared.failures.HostFailures.{HostFailures}
 use Rattle.wu_views.proofs.FailureLemmas.{worst_more}
 use Rattle.wu_views.proofs.failures.worst_of.Goals as goal
@@ -15,4 +16,4 @@ loop-host-preserved c =
     let place = c.place_among-place.result in
     let put : c.insert.new.self.items ≡ insert c.loop-host.worst.items place host = search rules in
     let at : insert c.loop-host.worst.items place host ≡ with_host_failures c.loop-host.worst.items host = subst (λ (hs : List HostFailures). insert hs place host ≡ with_host_failures hs host) c.deref.ensures.value c.place_among-place.ensures.place in
-    (append_assoc yielded (host ∷ []) rest ∙ stands, c.truncate.ensures.items ∙ ap (take most_hosts) (put ∙ at ∙ ap (λ hs. with_host_failures hs host) so_far.1) ∙ worst_more yielded host)
+    (append_assoc yielded (host ∷ []) rest ∙ stands, c.truncate.ensures.items ∙ ap (take MOST_HOSTS) (put ∙ at ∙ ap (λ hs. with_host_failures hs host) so_far.1) ∙ worst_more yielded host)

@@ -27,12 +27,10 @@ loop-kind-preserved g c =
 
 pub returns-in_err-line : goal.returns-in_err-line
 returns-in_err-line g c =
-    let fault = c.in_err-line.field-0.0 in
-    let r = c.from_residual.result in
     let same = c.from_residual.ensures.1 in
     record {
-      opens = opens_handed r fault same g.S.Store c.import_line.new.conn c.in_err-line.ensures.opens;
-      reads = reads_then_handed g.S.Store _ _ _ tt c.loop-kind.invariant.reads r fault same c.in_err-line.ensures.reads (λ other told world. tt) (λ world stood one can. can_load (get_or all_kinds c.loop-kind.kind-index Batch) c.args.name.now world can);
+      opens = opens_handed _ _ same g.S.Store c.import_line.new.conn c.in_err-line.ensures.opens;
+      reads = reads_then_handed g.S.Store _ _ _ tt c.loop-kind.invariant.reads _ _ same c.in_err-line.ensures.reads (λ other told world. tt) (λ world stood one can. can_load (get_or all_kinds c.loop-kind.kind-index Batch) c.args.name.now world can);
     }
 
 pub returns-in_err-push-clause-reads : goal.returns-in_err-push-clause-reads

@@ -7,15 +7,13 @@ use Rattle.wu_views.proofs.questions.ask_count.Goals as goal
 pub returns-in_err-row : goal.returns-in_err-row
 returns-in_err-row g c =
     let q = c.in_err-row.ensures in
-    let fault = c.in_err-row.field-0.0 in
-    let r = c.from_residual.result in
     let same = c.from_residual.ensures.1 in
     record {
-      asks = λ is. asks_handed g.S.Store c.args.conn.now c.ask_row.new.conn r fault same (q.asks is);
-      opens = λ is. opens_handed r fault same g.S.Store c.ask_row.new.conn (q.opens is);
-      shows = λ clean. nothing_handed r fault same _;
-      fails = λ clean. err_handed r fault same _ (inr (inl (q.fails clean)));
-      told = fault_handed r fault same q.told;
+      asks = λ is. asks_handed g.S.Store c.args.conn.now c.ask_row.new.conn _ _ same (q.asks is);
+      opens = λ is. opens_handed _ _ same g.S.Store c.ask_row.new.conn (q.opens is);
+      shows = λ clean. nothing_handed _ _ same _;
+      fails = λ clean. err_handed _ _ same _ (inr (inl (q.fails clean)));
+      told = fault_handed _ _ same q.told;
     }
 
 pub returns-in-Some : goal.returns-in-Some
@@ -39,14 +37,11 @@ returns-in-Some g c =
 
 pub returns-in-None : goal.returns-in-None
 returns-in-None g c =
-    let old = c.args.conn.now in
-    let new = c.ask_row.new.conn in
     let q = c.in_ok-row.ensures in
-    let row = c.in_ok-row.row in
     record {
-      asks = λ is. asks_row g.S.Store old new row (Err NotAProject) (inr refl) (q.asks is);
+      asks = λ is. asks_row g.S.Store _ _ _ (Err NotAProject) (inr refl) (q.asks is);
       opens = λ is clean. inr (q.opens is clean);
       shows = λ clean. tt;
-      fails = none_fails g.S.Store old new c.args.sql.now (bound c.args.params.now) row q.shows c.in-None.is;
+      fails = none_fails g.S.Store c.args.conn.now c.ask_row.new.conn c.args.sql.now (bound c.args.params.now) _ q.shows c.in-None.is;
       told = inr (inr refl);
     }
