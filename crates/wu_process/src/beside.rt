@@ -12,8 +12,22 @@ use wu_arguments::ReadFile;
 use wu_cli::Trouble;
 use wu_core::Fault;
 
-/// The bytes with which each database begins.
-const HEADER: &[u8] = b"SQLite format 3\0";
+/// The bytes with which each database begins, after its first one.
+const HEADER_REST: &[u8] = b"QLite format 3\0";
+
+/// How many of the first bytes of a file are looked at.
+const HEADER_LEN: usize = 16;
+
+/// The first byte of a log. A new log begins with 0 until it is whole.
+const LOG_BEGINS: u8 = 0x37;
+
+/// Returns whether something lies at the path that is no file, as a folder or a pipe. It is not opened.
+pub fn is_no_file(rt: &HostRuntime, path: &str) -> bool {
+    match fs::metadata(rt, path) {
+        Ok(found) => !found.is_file(),
+        Err(_) => false,
+    }
+}
 
 /// Returns whether the path names a log or a journal of a database, and no database.
 pub fn names_log(path: &str) -> bool
@@ -48,40 +62,85 @@ pub fn has_log(rt: &HostRuntime, path: &str) -> Result<bool, AllocError> {
     has_log_of(rt, path, SHORTEST_LOG)
 }
 
-/// The first byte of a new database that is not made yet.
-const UNMADE: u8 = 0;
+/// Returns whether a log or a journal with content lies beside the path.
+pub fn has_content_beside(rt: &HostRuntime, path: &str) -> Result<bool, AllocError> {
+    has_log_of(rt, path, 1)
+}
+
+/// Returns whether these first bytes of a file may be what a stop left of a new database: its header after a first byte
+/// of 0, or zeros alone.
+fn may_be_unmade(bytes: &[u8]) -> bool {
+    bytes.first() == Some(&0)
+        && (bytes.ends_with(HEADER_REST) || bytes.iter().all(|byte| *byte == 0))
+}
 
 /// Returns whether the file at the path begins as no database does. An empty file can become one. So can what a stop left
-/// of a new database: one byte, or a file beside its log, which begins with 0. Of a file that cannot be read it is not
+/// of a new database, if it has one byte, or if its log lies beside it. Of what cannot be read, or is no file, it is not
 /// known. The only fault is `Memory`.
 pub fn is_foreign(rt: &HostRuntime, path: &str) -> Result<bool, Fault>
     // The only fault is `Memory`.
     ensures { IfErr result (λ fault. fault ≡ Memory) }
 {
-    let Some(bytes) = HostFiles::new(rt).read(path, HEADER.len() - 1)? else {
+    if is_no_file(rt, path) {
+        return Ok(false);
+    }
+    let Some(bytes) = HostFiles::new(rt).read(path, HEADER_LEN - 1)? else {
         return Ok(false);
     };
     match bytes.first() {
         None => Ok(false),
-        Some(&UNMADE) => Ok(bytes.len() > 1 && !has_log_of(rt, path, 1)?),
-        Some(_) => Ok(bytes.as_slice() != HEADER),
+        Some(&b'S') => Ok(!bytes.ends_with(HEADER_REST)),
+        Some(_) if may_be_unmade(&bytes) => Ok(bytes.len() > 1 && !has_content_beside(rt, path)?),
+        Some(_) => Ok(true),
     }
 }
 
+/// Returns whether what lies at the path of a database's log begins as no log does. The only fault is `Memory`.
+pub fn has_foreign_log(rt: &HostRuntime, path: &str) -> Result<bool, Fault>
+    // The only fault is `Memory`.
+    ensures { IfErr result (λ fault. fault ≡ Memory) }
+{
+    let log = format!(in rt.alloc(); "{path}-wal")?;
+    if is_no_file(rt, log.as_str()) {
+        return Ok(false);
+    }
+    match HostFiles::new(rt).read(log.as_str(), 0)? {
+        Some(bytes) => Ok(
+            bytes
+                .first()
+                .is_some_and(|first| *first != 0 && *first != LOG_BEGINS),
+        ),
+        None => Ok(false),
+    }
+}
+
+/// Returns whether what lies at a path is no file, is a file of something else, or has such a file in the place of its
+/// log. The only fault is `Memory`.
+fn is_barred_at(rt: &HostRuntime, path: &str) -> Result<bool, Fault>
+    // The only fault is `Memory`.
+    ensures { IfErr result (λ fault. fault ≡ Memory) }
+{
+    if is_no_file(rt, path) || has_foreign_log(rt, path)? {
+        return Ok(true);
+    }
+    Ok(!has_log(rt, path)? && is_foreign(rt, path)?)
+}
+
 /// Refuses a database that must not be opened, because the opening would destroy or make files that are not its own:
-/// where the path names a log, where a log or a journal has lost its database, and where a file without a log is no
-/// database. Out of memory is reported as `Memory`.
+/// where the path names a log, where a log or a journal has lost its database, where no file lies at the path or a file
+/// without a log that is no database, and where something else lies in the place of the log. Out of memory is reported as
+/// `Memory`.
 pub fn bar(rt: &HostRuntime, path: &str) -> Result<(), Trouble>
     // A refusal is reported as a database that cannot be opened, or as out of memory.
     ensures { IfErr result IsBar }
 {
     let is_barred = match fs::canonicalize(rt, path) {
-        Ok(real) => !has_log(rt, real.as_str())? && is_foreign(rt, real.as_str())?,
+        Ok(real) => is_barred_at(rt, real.as_str())?,
         Err(error) if error.kind() == ErrorKind::OutOfMemory => return Err(Trouble::Fault(
             Fault::Memory,
         )),
         // A log without a page is kept too: it was beside a database that may be put back.
-        Err(_) => has_log_of(rt, path, 1)?,
+        Err(_) => has_content_beside(rt, path)?,
     };
     if is_barred || names_log(path) {
         return Err(Trouble::Unopened);

@@ -4,7 +4,7 @@ ghost use Rattle.std.specs.Prelude.{◌≡◌, false, IfOk};
 ghost use Rattle.wu_process.specs.Backups.{may_become};
 ghost use Rattle.wu_process.specs.Opening.{names_log};
 
-use crate::beside::{has_log, names_log};
+use crate::beside::{has_content_beside, names_log};
 use crate::files::HostFiles;
 use std::fs::{self, File};
 use std::io::{self, ErrorKind, Write};
@@ -36,7 +36,7 @@ pub fn refuse_path(rt: &HostRuntime, path: &str) -> Result<(), Unmade>
         Err(error) if error.kind() == ErrorKind::NotFound => {}
         Err(error) => return Err(Unmade::of(&error)),
     }
-    match has_log(rt, path) {
+    match has_content_beside(rt, path) {
         Ok(true) => Err(Unmade::LogBeside),
         Ok(false) => Ok(()),
         Err(_) => Err(Unmade::Memory),

@@ -5,6 +5,7 @@ ghost use Rattle.std.specs.Prelude.{IsTrue};
 ghost use Rattle.wu_process.specs.Backups.{may_become};
 ghost use Rattle.wu_process.specs.Outputs.{DropsKept, KeepsFiles, KeepsOfPath};
 
+use crate::beside::is_no_file;
 use crate::check::{open_copy, options};
 use crate::copy::copy_files;
 use crate::files::HostFiles;
@@ -18,6 +19,9 @@ use wu_cli::{KeepFile, Kept, KeptCounts, Trouble, Unmade, keep_sound};
 
 /// Returns whether the file at the path has exactly these bytes. What cannot be read has none.
 fn has_bytes(rt: &HostRuntime, path: &str, bytes: &[u8]) -> Result<bool, Unmade> {
+    if is_no_file(rt, path) {
+        return Ok(false);
+    }
     let Ok(file) = File::open(rt, path) else {
         return Ok(false);
     };
@@ -32,10 +36,19 @@ fn has_bytes(rt: &HostRuntime, path: &str, bytes: &[u8]) -> Result<bool, Unmade>
     }
 }
 
+/// Removes what an earlier run left at a path. Of a link the file stays that it leads to.
+fn discard(rt: &HostRuntime, path: &str) -> io::Result<()> {
+    match fs::remove_file(rt, path) {
+        Err(error) if error.kind() != ErrorKind::NotFound => Err(error),
+        _ => Ok(()),
+    }
+}
+
 /// Makes a file with these bytes by way of the one at `part`, of which nothing is left afterwards. One that an earlier
-/// run left there is written anew.
+/// run left there is made anew.
 fn make_by(rt: &HostRuntime, part: &str, path: &str, bytes: &[u8]) -> io::Result<()> {
-    let mut file = File::create(rt, part)?;
+    discard(rt, part)?;
+    let mut file = File::create_new(rt, part)?;
     let made = file
         .write_all(bytes)
         .and_then(|()| fs::rename(rt, part, path));
