@@ -11,7 +11,7 @@ use Rattle.clap.specs.declared.parser.matches.ArgMatches.{ArgMatches}
 use Rattle.wu_arguments.specs.declared.usage.Usage.{Usage}
 use Rattle.wu_arguments.specs.CommandLine.{all_subcommands, named_by, program, program_alone, subcommand_name}
 use Rattle.wu_arguments.specs.declared.subcommand.Subcommand.{Subcommand}
-use Rattle.wu_arguments.specs.declared.subcommand.Subcommand.TheVariants.{Import, Pass, Cancel, Cycle, Show, Imports, Status, Upgrade, Script, Session, Check, Lint, Backup, Outputs, Explain}
+use Rattle.wu_arguments.specs.declared.subcommand.Subcommand.TheVariants.{Import, Pass}
 use Rattle.wu_core.specs.declared.import.ImportKind.TheVariants as kind
 use Rattle.wu_rules.specs.declared.due.Pass.TheVariants as pass
 use Rattle.wu_arguments.proofs.OrderLemmas.{its_name}
@@ -41,27 +41,8 @@ IsSeen one = record {
 
 seen : (one : Subcommand) → IsSeen one
 seen (Import kind.Batch) = record { free = refl; top = refl; met = refl; met_too = refl; shape = refl; passes = refl; passes_too = refl }
-seen (Import kind.Sent) = record { free = refl; top = refl; met = refl; met_too = refl; shape = refl; passes = refl; passes_too = refl }
-seen (Import kind.Reported) = record { free = refl; top = refl; met = refl; met_too = refl; shape = refl; passes = refl; passes_too = refl }
-seen (Import kind.Classes) = record { free = refl; top = refl; met = refl; met_too = refl; shape = refl; passes = refl; passes_too = refl }
 seen (Pass pass.Transition) = record { free = refl; top = refl; met = refl; met_too = refl; shape = refl; passes = refl; passes_too = refl }
-seen (Pass pass.Validate) = record { free = refl; top = refl; met = refl; met_too = refl; shape = refl; passes = refl; passes_too = refl }
-seen (Pass pass.Assimilate) = record { free = refl; top = refl; met = refl; met_too = refl; shape = refl; passes = refl; passes_too = refl }
-seen (Pass pass.Delete) = record { free = refl; top = refl; met = refl; met_too = refl; shape = refl; passes = refl; passes_too = refl }
-seen (Pass pass.Purge) = record { free = refl; top = refl; met = refl; met_too = refl; shape = refl; passes = refl; passes_too = refl }
-seen Cancel = record { free = refl; top = refl; met = refl; met_too = refl; shape = refl; passes = refl; passes_too = refl }
-seen Cycle = record { free = refl; top = refl; met = refl; met_too = refl; shape = refl; passes = refl; passes_too = refl }
-seen Show = record { free = refl; top = refl; met = refl; met_too = refl; shape = refl; passes = refl; passes_too = refl }
-seen Imports = record { free = refl; top = refl; met = refl; met_too = refl; shape = refl; passes = refl; passes_too = refl }
-seen Status = record { free = refl; top = refl; met = refl; met_too = refl; shape = refl; passes = refl; passes_too = refl }
-seen Upgrade = record { free = refl; top = refl; met = refl; met_too = refl; shape = refl; passes = refl; passes_too = refl }
-seen Script = record { free = refl; top = refl; met = refl; met_too = refl; shape = refl; passes = refl; passes_too = refl }
-seen Session = record { free = refl; top = refl; met = refl; met_too = refl; shape = refl; passes = refl; passes_too = refl }
-seen Check = record { free = refl; top = refl; met = refl; met_too = refl; shape = refl; passes = refl; passes_too = refl }
-seen Lint = record { free = refl; top = refl; met = refl; met_too = refl; shape = refl; passes = refl; passes_too = refl }
-seen Backup = record { free = refl; top = refl; met = refl; met_too = refl; shape = refl; passes = refl; passes_too = refl }
-seen Outputs = record { free = refl; top = refl; met = refl; met_too = refl; shape = refl; passes = refl; passes_too = refl }
-seen Explain = record { free = refl; top = refl; met = refl; met_too = refl; shape = refl; passes = refl; passes_too = refl }
+seen _ = record { free = refl; top = refl; met = refl; met_too = refl; shape = refl; passes = refl; passes_too = refl }
 
 pub alone_is_free : (one : Subcommand) → is_simple_and_free (program_alone one) ≡ true
 alone_is_free one = (seen one).free

@@ -11,7 +11,7 @@ use Rattle.wu_core.specs.declared.import.ImportKind.TheVariants as kind
 use Rattle.wu_rules.specs.declared.due.Pass.{Pass as PassKind}
 use Rattle.wu_rules.specs.declared.due.Pass.TheVariants as pass
 use Rattle.wu_arguments.specs.declared.option.LineOption.{LineOption}
-use Rattle.wu_arguments.specs.declared.option.LineOption.TheVariants.{Database, Checked, To, Folder, Only, Name, Imported, Jobs, Template, File, Now, Limit, MinAge, Workunit, View, Topic, Detail, Kind, Linted}
+use Rattle.wu_arguments.specs.declared.option.LineOption.TheVariants.{Database, Checked, To, Folder, Only, Name, Imported, Jobs, Template, File, Now, Limit, MinAge, Workunit, View, Topic, Detail, FaultDetail, FaultCause, Kind, Linted}
 use Rattle.wu_arguments.specs.declared.option.OptionValue.{OptionValue}
 use Rattle.wu_arguments.specs.declared.option.OptionValue.TheVariants.{Text, TextIfAny, Number, Word}
 use Rattle.wu_arguments.specs.declared.subcommand.Subcommand.{Subcommand}
@@ -36,6 +36,8 @@ option_name Workunit = codes "workunit"
 option_name View = codes "view"
 option_name Topic = codes "topic"
 option_name Detail = codes "which"
+option_name FaultDetail = codes "detail"
+option_name FaultCause = codes "cause"
 option_name Kind = codes "kind"
 option_name Linted = codes "file"
 
@@ -50,6 +52,8 @@ value_of_option Limit = Number
 value_of_option MinAge = Number
 value_of_option Topic = Word
 value_of_option Detail = Word
+value_of_option FaultDetail = Word
+value_of_option FaultCause = Word
 value_of_option _ = Text
 
 abbrev pub is_required_value : OptionValue → Bool
@@ -127,7 +131,7 @@ options_of Check = Checked ∷ []
 options_of Lint = Kind ∷ Linted ∷ []
 options_of Backup = Checked ∷ To ∷ []
 options_of Outputs = Checked ∷ Folder ∷ Only ∷ []
-options_of Explain = Topic ∷ Detail ∷ []
+options_of Explain = Topic ∷ Detail ∷ FaultDetail ∷ FaultCause ∷ []
 
 abbrev pub all_subcommands : List Subcommand
 all_subcommands =

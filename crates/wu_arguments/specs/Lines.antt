@@ -102,3 +102,4 @@ IsOrder found asked (order.Export it) = IsTextIn found option.Checked it.db × I
 IsOrder found asked (order.Lint it) = (asked ≡ subcommand.Lint) × IsTextIn found option.Kind it.kind × IsTextIn found option.Linted it.file
 IsOrder found asked (order.Explain topic) =
     (asked ≡ subcommand.Explain) × (value_in found option.Topic ≡ topic.name) × (value_in found option.Detail ≡ topic.detail)
+    × (value_in found option.FaultDetail ≡ topic.fault_detail) × (value_in found option.FaultCause ≡ topic.fault_cause)

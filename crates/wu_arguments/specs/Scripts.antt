@@ -22,6 +22,17 @@ use Rattle.wu_arguments.specs.declared.script.Mode.TheVariants.{Once, Repeated, 
 abbrev pub command_words : List ℕ → List (List ℕ) → List (List ℕ)
 command_words db words = codes "lintelthyme" ∷ words ++ (codes "--db=" ++ db) ∷ []
 
+-- What a line that begins with this word asks for, if it takes no database. Such a line is none of a script.
+abbrev pub outsider_word : List ℕ → Option Outsider
+outsider_word word =
+    if bytes_eq word (codes "help") then Some outsider.Help
+    else if bytes_eq word (codes "lint") then Some outsider.Lint
+    else if bytes_eq word (codes "explain") then Some outsider.Explanation else None
+
+-- What a line of these words asks for, if its first word says that it takes no database.
+abbrev pub outsider_first : List (List ℕ) → Option Outsider
+outsider_first words = option_map_or outsider_word (slice_get words 0) None
+
 -- What a script may not contain: another script, a session, a check, an export, a lint or an explanation.
 abbrev pub outsider_of : Order → Option Outsider
 outsider_of (order.Line line) = None
@@ -48,14 +59,21 @@ tried_refusal (refusal.Outsider (outsider.Export export)) = refusal.Try
 tried_refusal why = why
 
 -- The words read as this line, or as this refusal; any words may be out of memory.
-abbrev pub ReadsWords : List (List ℕ) → Result Line Refusal → Type 0
-ReadsWords words (Ok line) = IsLineOf words line
-ReadsWords words (Err (refusal.Text cause)) = ⊥
-ReadsWords words (Err (refusal.Words usage)) = Explains words usage
-ReadsWords words (Err (refusal.Outsider outsider)) = (order : Order) × IsOrderOf words order × (outsider_of order ≡ Some outsider)
-ReadsWords words (Err refusal.Repeat) = ⊥
-ReadsWords words (Err refusal.Try) = ⊥
-ReadsWords words (Err (refusal.Fault fault)) = fault ≡ Memory
+abbrev pub ReadsCommand : List (List ℕ) → Result Line Refusal → Type 0
+ReadsCommand words (Ok line) = IsLineOf words line
+ReadsCommand words (Err (refusal.Text cause)) = ⊥
+ReadsCommand words (Err (refusal.Words usage)) = Explains words usage
+ReadsCommand words (Err (refusal.Outsider outsider)) = (order : Order) × IsOrderOf words order × (outsider_of order ≡ Some outsider)
+ReadsCommand words (Err refusal.Repeat) = ⊥
+ReadsCommand words (Err refusal.Try) = ⊥
+ReadsCommand words (Err (refusal.Fault fault)) = fault ≡ Memory
+
+-- If the first word of a script's line says that it takes no database, the line is refused for that. Else its words
+-- read as a command line.
+abbrev pub ReadsWords : List ℕ → List (List ℕ) → Result Line Refusal → Type 0
+ReadsWords db words result =
+    ((outsider : Outsider) × (outsider_first words ≡ Some outsider) × (result ≡ Err (refusal.Outsider outsider)))
+    ⊎ ((outsider_first words ≡ None) × ReadsCommand (command_words db words) result)
 
 -- Whether a line is one pass, which can be repeated.
 abbrev pub is_pass : Asking → Bool
@@ -64,16 +82,16 @@ is_pass _ = false
 
 -- The words after `repeat` read as a line that is a pass, or are refused. Any other line is refused as `Repeat`, and so
 -- is an export.
-abbrev pub ReadsRepeated : List (List ℕ) → Result Line Refusal → Type 0
-ReadsRepeated words (Ok line) = IsLineOf words line × (is_pass line.asking ≡ true)
-ReadsRepeated words (Err why) =
-    ((line : Line) × IsLineOf words line × (is_pass line.asking ≡ false) × (why ≡ refusal.Repeat))
-    ⊎ ((other : Refusal) × ReadsWords words (Err other) × (why ≡ repeated_refusal other))
+abbrev pub ReadsRepeated : List ℕ → List (List ℕ) → Result Line Refusal → Type 0
+ReadsRepeated db words (Ok line) = ReadsWords db words (Ok line) × (is_pass line.asking ≡ true)
+ReadsRepeated db words (Err why) =
+    ((line : Line) × ReadsWords db words (Ok line) × (is_pass line.asking ≡ false) × (why ≡ refusal.Repeat))
+    ⊎ ((other : Refusal) × ReadsWords db words (Err other) × (why ≡ repeated_refusal other))
 
 -- The words after `try` read as a line, or are refused: an export as `Try`.
-abbrev pub ReadsTried : List (List ℕ) → Result Line Refusal → Type 0
-ReadsTried words (Ok line) = IsLineOf words line
-ReadsTried words (Err why) = (other : Refusal) × ReadsWords words (Err other) × (why ≡ tried_refusal other)
+abbrev pub ReadsTried : List ℕ → List (List ℕ) → Result Line Refusal → Type 0
+ReadsTried db words (Ok line) = ReadsWords db words (Ok line)
+ReadsTried db words (Err why) = (other : Refusal) × ReadsWords db words (Err other) × (why ≡ tried_refusal other)
 
 -- How a line is done that begins with this word.
 abbrev pub mode_of_word : List ℕ → Mode
@@ -86,9 +104,9 @@ abbrev pub mode_of : List (List ℕ) → Mode
 mode_of words = option_map_or mode_of_word (slice_get words 0) Once
 
 abbrev pub ReadsWordsOf : List ℕ → List (List ℕ) → Mode → Result Line Refusal → Type 0
-ReadsWordsOf db words Once result = ReadsWords (command_words db words) result
-ReadsWordsOf db words Repeated result = ReadsRepeated (command_words db (drop 1 words)) result
-ReadsWordsOf db words Tried result = ReadsTried (command_words db (drop 1 words)) result
+ReadsWordsOf db words Once result = ReadsWords db words result
+ReadsWordsOf db words Repeated result = ReadsRepeated db (drop 1 words) result
+ReadsWordsOf db words Tried result = ReadsTried db (drop 1 words) result
 
 -- A line of a script reads as this line or this refusal. A line that cannot be split into words is refused for that
 -- cause.

@@ -76,8 +76,12 @@ pub enum LineOption {
     View,
     /// What is explained.
     Topic,
-    /// Which view or file is explained.
+    /// Which view or file is explained, or the name of a fault that is explained by its number.
     Detail,
+    /// What a fault that is explained says first, after its name.
+    FaultDetail,
+    /// The cause that a fault that is explained says last.
+    FaultCause,
     /// What a file is for.
     Kind,
     /// A file that is read and not imported.
@@ -193,7 +197,19 @@ impl LineOption {
                 name: "which",
                 value: OptionValue::Word,
                 value_name: "WHICH",
-                help: "Which view, or which file",
+                help: "Which view, or which file; of a fault, its name",
+            },
+            LineOption::FaultDetail => OptionForm {
+                name: "detail",
+                value: OptionValue::Word,
+                value_name: "DETAIL",
+                help: "Of a fault, what is printed after its name; it changes nothing",
+            },
+            LineOption::FaultCause => OptionForm {
+                name: "cause",
+                value: OptionValue::Word,
+                value_name: "CAUSE",
+                help: "Of a fault, the cause that is printed last; it changes nothing",
             },
             LineOption::Kind => OptionForm {
                 name: "kind",

@@ -68,6 +68,10 @@ pub struct LintOrder {
 pub struct Topic {
     pub name: Option<Word>,
     pub detail: Option<Word>,
+    /// What a fault prints after its name: a row, a key or a version.
+    pub fault_detail: Option<Word>,
+    /// What a fault prints after that: a cause.
+    pub fault_cause: Option<Word>,
 }
 
 /// What words ask for.

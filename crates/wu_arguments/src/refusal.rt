@@ -23,6 +23,7 @@ pub enum Outsider {
     Export(Export),
     Lint,
     Explanation,
+    Help,
 }
 
 /// Why a line of a script cannot be run.

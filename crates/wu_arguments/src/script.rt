@@ -1,7 +1,7 @@
 //! The lines of a script as lines of the command line.
 
 ghost use Rattle.std.specs.Prelude.{◌≡◌, ◌++◌, ◌∷◌, ◌<◌, codes, drop, IfOk, length, map, string_bytes};
-ghost use Rattle.wu_arguments.specs.Scripts.{command_words, mode_of, mode_of_word, ReadsRepeated, ReadsTried, ReadsWords, ReadsWordsOf};
+ghost use Rattle.wu_arguments.specs.Scripts.{command_words, mode_of, mode_of_word, outsider_first, outsider_word, ReadsRepeated, ReadsTried, ReadsWords, ReadsWordsOf};
 
 use crate::line::{Asking, Line};
 use crate::order::Order;
@@ -39,10 +39,35 @@ fn words_of_command(alloc: Global, db: &str, words: Words) -> Result<Vec<String>
     Ok(all)
 }
 
+/// Returns what a line that begins with this word asks for, if it takes no database and so is no line of a script.
+fn outsider_word(word: &str) -> Option<Outsider>
+    ensures { result ≡ outsider_word word.now }
+{
+    match word {
+        "help" => Some(Outsider::Help),
+        "lint" => Some(Outsider::Lint),
+        "explain" => Some(Outsider::Explanation),
+        _ => None,
+    }
+}
+
+/// Returns what a line of these words asks for, if its first word says that it takes no database.
+fn outsider_first(words: &[String]) -> Option<Outsider>
+    ensures { result ≡ outsider_first (map string_bytes words.now) }
+{
+    match words.first() {
+        Some(word) => outsider_word(word.as_str()),
+        None => None,
+    }
+}
+
 /// Returns the line that these words of a script ask for.
 fn line_of_words(alloc: Global, db: &str, words: Words) -> Result<Line, Refusal>
-    ensures { ReadsWords (command_words db.now words) result }
+    ensures { ReadsWords db.now words result }
 {
+    if let Some(outsider) = outsider_first(words.as_slice()) {
+        return Err(Refusal::Outsider(outsider));
+    }
     let words = words_of_command(alloc, db, words)?;
     match read_words(alloc, words.as_slice())? {
         Order::Line(line) => Ok(line),
@@ -57,7 +82,7 @@ fn line_of_words(alloc: Global, db: &str, words: Words) -> Result<Line, Refusal>
 
 /// Returns the pass that these words of a script ask for, which stand after `repeat`.
 fn pass_of_words(alloc: Global, db: &str, words: Words) -> Result<Line, Refusal>
-    ensures { ReadsRepeated (command_words db.now words) result }
+    ensures { ReadsRepeated db.now words result }
 {
     match line_of_words(alloc, db, words) {
         Ok(line) => match line.asking {
@@ -70,7 +95,7 @@ fn pass_of_words(alloc: Global, db: &str, words: Words) -> Result<Line, Refusal>
 
 /// Returns the line that these words of a script ask for, which stand after `try`.
 fn tried_of_words(alloc: Global, db: &str, words: Words) -> Result<Line, Refusal>
-    ensures { ReadsTried (command_words db.now words) result }
+    ensures { ReadsTried db.now words result }
 {
     match line_of_words(alloc, db, words) {
         Ok(line) => Ok(line),

@@ -218,7 +218,12 @@ impl Subcommand {
             },
             Subcommand::Explain => SubcommandForm {
                 name: "explain",
-                options: &[LineOption::Topic, LineOption::Detail],
+                options: &[
+                    LineOption::Topic,
+                    LineOption::Detail,
+                    LineOption::FaultDetail,
+                    LineOption::FaultCause,
+                ],
                 about: "Tell what a fault, status, view, file or key means, and what to do",
                 example: "Example: lintelthyme explain F3",
             },

@@ -210,7 +210,7 @@ fn read_lint(alloc: Global, found: &ArgMatches<'_>) -> Result<Order, Usage>
     }))
 }
 
-/// Reads the topic of an explanation.
+/// Reads the topic of an explanation, and what a fault prints after its name.
 fn read_topic(alloc: Global, found: &ArgMatches<'_>) -> Result<Order, Usage>
     ensures order { IfOk result (IsOrder (rows_of (found_of found.now)) Subcommand.Explain) }
     ensures refused { IfErr result (λ usage. usage ≡ Usage.Memory) }
@@ -218,6 +218,8 @@ fn read_topic(alloc: Global, found: &ArgMatches<'_>) -> Result<Order, Usage>
     Ok(Order::Explain(Topic {
         name: text_if_any(alloc, found, LineOption::Topic)?,
         detail: text_if_any(alloc, found, LineOption::Detail)?,
+        fault_detail: text_if_any(alloc, found, LineOption::FaultDetail)?,
+        fault_cause: text_if_any(alloc, found, LineOption::FaultCause)?,
     }))
 }
 

@@ -83,6 +83,30 @@ impl Imported {
         &self.name
     }
 
+    /// Returns the template of a batch, or no bytes.
+    pub fn template(&self) -> &Bytes
+        // It is the template of the import.
+        ensures { result.now ≡ self.now.template }
+    {
+        &self.template
+    }
+
+    /// Returns the content of the file.
+    pub fn content(&self) -> &Bytes
+        // It is the content of the import.
+        ensures { result.now ≡ self.now.content }
+    {
+        &self.content
+    }
+
+    /// Returns the number of the first workunit that the import made, or 0.
+    pub fn first_number(&self) -> u64
+        // It is the first number of the import.
+        ensures { result ≡ self.now.first_number }
+    {
+        self.first_number
+    }
+
     /// Returns whether only a batch has a template, and a first number is there only if workunits were made.
     pub fn may_be_kept(&self) -> bool
         // It is true exactly where only a batch has a template, and only an import that made

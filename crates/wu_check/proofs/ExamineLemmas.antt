@@ -21,13 +21,16 @@ use Rattle.wu_schema.proofs.AskingLemmas.{asks_fault, asks_made, asks_none, asks
 use Rattle.wu_store.specs.Loading.{StaysUnlessFailed}
 use Rattle.sqlite_trees.specs.View.{IsShaped}
 use Rattle.sqlite_trees.specs.declared.store.Shape.TheVariants as shape
-use Rattle.wu_tables.specs.Found.{HasQueueIn, IsFirstAgainst}
+use Rattle.wu_schema.specs.Fresh.{project_names}
+use Rattle.wu_schema.specs.Made.{AreFree}
+use Rattle.wu_tables.specs.Found.{HasQueueIn, IsFirstAgainst, StandsAgainst}
+use Rattle.wu_tables.specs.Upgrades.{IsFirstTaken}
 use Rattle.wu_tables.specs.declared.project.Misfit.{Misfit}
 use Rattle.wu_schema.specs.Tables.{IsClassedVersion}
 use Rattle.wu_check.specs.declared.finding.Finding.{Finding}
 use Rattle.wu_check.specs.Queues.{HasMarks, LooksInQueue}
 use Rattle.wu_check.specs.Examining.{unless_refused, Examines, IsLegible}
-use Rattle.wu_check.specs.Findings.{HasFirstTables, HasHostOfOtherSums, HasWrongRow, LacksTables, Tells}
+use Rattle.wu_check.specs.Findings.{FindsOfTables, HasFirstTables, HasHostOfOtherSums, HasWrongRow, HasWrongTables, LacksTables, Tells}
 use Rattle.wu_check.specs.Versions.{IsReadVersion}
 use Rattle.wu_check.specs.declared.finding.Finding.TheVariants as finding
 
@@ -267,3 +270,30 @@ lacks version db schema same misfit which told none needed = record {
   none = subst (λ (s : Schema). (trees : ProjectTrees) → HasTables version s trees → ⊥) same none;
   needed = needed;
 }
+
+-- where the tables of version 1 are there, so is the table `project`
+pub first_there : (version : ℕ) (db : Database) (misfit : Misfit) → HasFirstTables db version → LacksTables db misfit → HasWrongTables db misfit
+first_there version db misfit first lacks = record {
+  lacks = lacks;
+  room = λ missing. absurd (
+      let there = first.there.project.1.named in
+      let none = (subst (StandsAgainst lacks.version db.schema) missing lacks.told.wrong).1 in
+      cc);
+}
+
+-- what is found of the tables is true
+pub told_of_tables : (db : Database) (schema : Schema) → schema ≡ db.schema → (misfit : Misfit) → LacksTables db misfit → (found : Finding) → FindsOfTables schema misfit found → Tells db found
+told_of_tables db schema same misfit lacks (finding.Tables other) (is, room) = record {
+  lacks = subst (LacksTables db) (sym is) lacks;
+  room = λ missing. subst (λ (s : Schema). AreFree s project_names) same (room (sym is ∙ missing));
+}
+told_of_tables db schema same misfit lacks (finding.Barred name) (is, taken) =
+    let none = subst (LacksTables db) is lacks in
+    record { lacks = none; missing = none.told.wrong.1; taken = subst (λ (s : Schema). IsFirstTaken s project_names name.now) same taken }
+told_of_tables db schema same misfit lacks (finding.Row wrong) is = absurd is
+told_of_tables db schema same misfit lacks (finding.Sums sums) is = absurd is
+told_of_tables db schema same misfit lacks (finding.Version version) is = absurd is
+told_of_tables db schema same misfit lacks (finding.World wrong row) is = absurd is
+told_of_tables db schema same misfit lacks finding.Queue is = absurd is
+told_of_tables db schema same misfit lacks (finding.Marks place) is = absurd is
+told_of_tables db schema same misfit lacks (finding.Taken version name) is = absurd is

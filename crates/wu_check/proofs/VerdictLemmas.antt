@@ -16,6 +16,9 @@ use Rattle.wu_store.specs.Worlds.{SameWorld}
 use Rattle.wu_store.proofs.SameWorld.{one_world}
 use Rattle.wu_tables.specs.Found.{HasQueueIn}
 use Rattle.wu_tables.specs.Upgrades.{HasFreeNames, TakesUpgradeName}
+use Rattle.wu_tables.specs.declared.known.ProjectTable.TheVariants.{Project}
+use Rattle.wu_tables.specs.declared.project.Misfit.{Misfit}
+use Rattle.wu_tables.specs.declared.project.Misfit.TheVariants.{Missing}
 use Rattle.sqlite_trees.specs.View.{IsShaped}
 use Rattle.sqlite_trees.specs.declared.store.Shape.TheVariants as shape
 use Rattle.wu_check.proofs.LaterLemmas.{other_stands}
@@ -23,7 +26,7 @@ use Rattle.wu_check.proofs.VersionLemmas.{fewer_tables, one_table}
 use Rattle.wu_check.specs.Queues.{HasMarks}
 use Rattle.wu_check.specs.Checking.{IsCounted, IsKnown, IsSoundProject}
 use Rattle.wu_check.specs.Examining.{IsLegible}
-use Rattle.wu_check.specs.Findings.{HasTakenName, IsJudged, IsRightWorld, IsSoundAs, Says, SaysSound, SaysUnsound, SaysWhy, Tells, TellsOfSound}
+use Rattle.wu_check.specs.Findings.{HasTakenName, IsJudged, IsRightWorld, IsSoundAs, LacksTables, Says, SaysSound, SaysUnsound, SaysWhy, Tells, TellsOfSound}
 use Rattle.wu_check.specs.declared.finding.Finding.{Finding}
 use Rattle.wu_check.specs.declared.finding.Finding.TheVariants as finding
 use Rattle.wu_check.specs.declared.finding.Verdict.{Verdict}
@@ -70,9 +73,14 @@ module _ (any_order : SoundInAnyOrder) (db : Database) (p : IsSoundProject db) w
       let version = it.version in
       subst (λ (ws : List Workunit). HasQueue db (map (λ (w : Workunit). (w.number, marks w)) ws)) it.workunits (p.stands.queue (omega (arith, queued, version)))
 
+  -- its tables are there
+  never_lacks : (misfit : Misfit) → LacksTables db misfit → ⊥
+  never_lacks misfit told = told.none p.stands.refines.trees (fewer_tables p.world.version told.version (told.needed p.world p.stands.refines) db p.stands.refines.trees p.stands.refines.tables)
+
   -- what is found of it is a name that something has, and nothing else
   refuted : (found : Finding) → Tells db found → TellsOfSound db.schema p.world found
-  refuted (finding.Tables misfit) told = told.none p.stands.refines.trees (fewer_tables p.world.version told.version (told.needed p.world p.stands.refines) db p.stands.refines.trees p.stands.refines.tables)
+  refuted (finding.Tables misfit) told = never_lacks misfit told.lacks
+  refuted (finding.Barred name) told = never_lacks (Missing Project) told.lacks
   refuted (finding.Row wrong) told = told.none p.world (readable p.world p.sound p.known.first) p.stands.refines
   refuted (finding.Sums sums) told = told.row.none p.world (readable p.world p.sound p.known.first) p.stands.refines
   refuted (finding.Version version) told = told.other (subst IsKnown (other_stands db version told p.world p.stands.refines) p.known)

@@ -1,7 +1,8 @@
 -- What is found to keep a database from holding a sound project, or from being upgraded.
-use Rattle.std.specs.Prelude.{◌≡◌, ◌⊎◌, ℕ, ◌+◌, ◌<◌, ⊤, List, map, Option, Some, None, slice_get}
+use Rattle.std.specs.Prelude.{◌≡◌, ◌⊎◌, ℕ, ◌+◌, ◌<◌, ⊤, List, codes, map, Option, Some, None, slice_get}
 use Rattle.sqlite.specs.Effect.{Database}
 use Rattle.sqlite.specs.Schema.{Schema}
+use Rattle.sqlite_schema.specs.Names.{table_named}
 use Rattle.wu_core.specs.World.{World, Import}
 use Rattle.wu_core.specs.declared.workunit.HostClass.{HostClass}
 use Rattle.wu_core.specs.declared.workunit.Workunit.{Workunit}
@@ -19,6 +20,8 @@ use Rattle.wu_loader.specs.Worlds.{IsReadable}
 use Rattle.wu_loader.specs.declared.finding.LoadedTable.TheVariants as loaded
 use Rattle.wu_loader.specs.declared.finding.WrongRow as row
 use Rattle.wu_loader.specs.declared.totals.OtherSums.{OtherSums}
+use Rattle.wu_schema.specs.Fresh.{project_names}
+use Rattle.wu_schema.specs.Made.{AreFree}
 use Rattle.wu_schema.specs.Queue.{HasQueue}
 use Rattle.wu_schema.specs.Refines.{Refines}
 use Rattle.wu_schema.specs.Stored.{stored_marks}
@@ -26,8 +29,10 @@ use Rattle.wu_schema.specs.Tables.{HasTables, IsClassedVersion, ProjectTrees}
 use Rattle.wu_schema.specs.Versions.{AreOfVersion, HasProject, HasVersion, rows_of_project, ShowsVersion}
 use Rattle.wu_store.specs.StandsFor.{IsQueued, marked}
 use Rattle.wu_tables.specs.Found as tables
-use Rattle.wu_tables.specs.Upgrades.{HasFreeNames, TakesUpgradeName}
+use Rattle.wu_tables.specs.Upgrades.{HasFreeNames, IsFirstTaken, TakesUpgradeName}
+use Rattle.wu_tables.specs.declared.known.ProjectTable.TheVariants.{Project}
 use Rattle.wu_tables.specs.declared.project.Misfit.{Misfit}
+use Rattle.wu_tables.specs.declared.project.Misfit.TheVariants.{Missing}
 use Rattle.wu_check.specs.Checking.{IsCounted, IsKnown, IsSoundProject}
 use Rattle.wu_check.specs.Versions.{IsReadVersion}
 use Rattle.wu_check.specs.declared.finding.Finding.{Finding}
@@ -74,6 +79,22 @@ pub record LacksTables (db : Database) (misfit : Misfit) : Type 0 where
   pub told : tables.IsFirstAgainst version db.schema misfit
   pub none : (trees : ProjectTrees) → HasTables version db.schema trees → ⊥
   pub needed : (world : World) → Refines db world → IsClassedVersion version → IsClassedVersion world.version
+
+-- If this says that there is no table `project`, nothing has a name that a new project gives.
+abbrev pub LeavesRoom : Schema → Misfit → Type 0
+LeavesRoom schema misfit = misfit ≡ Missing Project → AreFree schema project_names
+
+-- The first table that is wrong is this one. If it is the table `project`, and it is missing, a new project has room.
+pub record HasWrongTables (db : Database) (misfit : Misfit) : Type 0 where
+  pub lacks : LacksTables db misfit
+  pub room : LeavesRoom db.schema misfit
+
+-- There is no table `project`. Something, be it a table, an index or a view, has this name, the first one taken of those
+-- that a new project gives.
+pub record BarsProject (db : Database) (name : List ℕ) : Type 0 where
+  pub lacks : LacksTables db (Missing Project)
+  pub missing : table_named db.schema (codes "project") ≡ None
+  pub taken : IsFirstTaken db.schema project_names name
 
 -- The tables of the project's version are there. Among the rows that questions show of them, this is the first that is
 -- wrong, and the tables represent no world.
@@ -140,7 +161,8 @@ pub record HasTakenName (db : Database) (version : ℕ) (name : List ℕ) : Type
 -- agree, the queue, its rows, and the names that an upgrade gives. `PutsLaterFirst` says when an unknown version comes
 -- before them.
 abbrev pub Tells : Database → Finding → Type 0
-Tells db (finding.Tables misfit) = LacksTables db misfit
+Tells db (finding.Tables misfit) = HasWrongTables db misfit
+Tells db (finding.Barred name) = BarsProject db name.now
 Tells db (finding.Row wrong) = HasWrongRow db wrong
 Tells db (finding.Sums sums) = HasHostOfOtherSums db sums
 Tells db (finding.Version version) = HasOtherVersion db version
@@ -198,6 +220,13 @@ Says db (verdict.Sound version workunits results) = IsSoundAs db version workuni
 Says db (verdict.Unsound found) = Tells db found
 
 -- ---- while a database is checked
+
+-- What is found of tables of which this is wrong: just that; or, if there is no table `project`, the first name of a new
+-- project that something has.
+abbrev pub FindsOfTables : Schema → Misfit → Finding → Type 0
+FindsOfTables schema misfit (finding.Tables other) = (other ≡ misfit) × LeavesRoom schema misfit
+FindsOfTables schema misfit (finding.Barred name) = (misfit ≡ Missing Project) × IsFirstTaken schema project_names name.now
+FindsOfTables schema misfit _ = ⊥
 
 -- The tables represent this world, or this finding is true.
 abbrev pub IsBasis : Database → Basis → Type 0

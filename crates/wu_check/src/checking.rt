@@ -2,7 +2,7 @@
 
 ghost use Rattle.std.specs.Prelude.{◌≡◌, IfErr};
 ghost use Rattle.wu_check.specs.Examining.{unless_refused, AnswersUnlessFailed, Examines, OnKept, OnLegible};
-ghost use Rattle.wu_check.specs.Findings.{HasWrongRow, IsBasis, IsBasisLater, IsBasisOf, Says, SaysLater, SaysSound, SaysUnsound, SaysWhy, Tells, TellsLater};
+ghost use Rattle.wu_check.specs.Findings.{FindsOfTables, HasWrongRow, IsBasis, IsBasisLater, IsBasisOf, Says, SaysLater, SaysSound, SaysUnsound, SaysWhy, Tells, TellsLater};
 ghost use Rattle.wu_schema.specs.Asking.{Asks, ServesUnlessFailed};
 ghost use Rattle.wu_schema.specs.Calls.{OnAnswer};
 ghost use Rattle.wu_schema.specs.Faults.{IsStoreFault};
@@ -13,6 +13,7 @@ use crate::finding::{Finding, Verdict};
 use crate::judging::{is_known, judge_world};
 use crate::version::{FIRST_VERSION, version_told};
 use sqlite::{Alter, Connection};
+use sqlite_schema::schema::Schema;
 use std::alloc::Global;
 use wu_audit::Loaded;
 use wu_audit::laws::sound_in_any_order;
@@ -21,7 +22,7 @@ use wu_loader::finding::{Found, LoadedTable, WrongRow};
 use wu_loader::totals::OtherSums;
 use wu_loader::{load_world, other_sums};
 use wu_schema::version_of;
-use wu_tables::{know_tables, taken_name};
+use wu_tables::{Misfit, ProjectTable, know_tables, taken_from_new, taken_name};
 
 /// The world that the tables represent, or what keeps them from it.
 #[derive(Drop)]
@@ -59,6 +60,22 @@ fn finding_of_row<S: Alter>(
     match found {
         Some(sums) => Ok(Finding::Sums(sums)),
         None => Ok(Finding::Row(wrong)),
+    }
+}
+
+/// Returns the finding on tables that are not those of a project. Without a table `project` that is the first name that
+/// keeps a new project from being made, if something has one.
+fn finding_of_tables(schema: &Schema, misfit: Misfit) -> Finding
+    // The finding is the misfit; or it is `Barred` if the table `project` is missing, with the first
+    // name of a new project that something has.
+    ensures { FindsOfTables schema.now misfit result }
+{
+    let Misfit::Missing(ProjectTable::Project) = misfit else {
+        return Finding::Tables(misfit);
+    };
+    match taken_from_new(schema) {
+        Some(name) => Finding::Barred(name),
+        None => Finding::Tables(misfit),
     }
 }
 
@@ -116,7 +133,8 @@ fn find_world<S: Alter>(conn: &mut Connection<S>, alloc: Global) -> Result<Basis
     ensures later { OnAnswer S.Store conn.old conn.new result (IsBasisLater conn.old.step_limit) }
 {
     if let Err(misfit) = know_tables(conn.schema(), FIRST_VERSION) {
-        let finding = unless_later(conn, Finding::Tables(misfit))?;
+        let found = finding_of_tables(conn.schema(), misfit);
+        let finding = unless_later(conn, found)?;
         return Ok(Basis::Unsound(finding));
     }
     let version = version_told(conn)?;
@@ -167,7 +185,8 @@ pub fn check<S: Alter>(conn: &mut Connection<S>, alloc: Global) -> Result<Verdic
     ensures unsound { OnAnswer S.Store conn.old conn.new result SaysUnsound }
     // Over kept tables the finding is true, and the first in the written order: tables, their rows,
     // keys and agreement, queue, names of an upgrade. An unknown version is that of the one row of
-    // `project`, or of what has its name.
+    // `project`, or of what has its name. A missing `project` is `Barred` if something has a name
+    // of a new project.
     ensures told { OnKept S.Store conn.old conn.new result SaysWhy }
     // Over kept tables with no limit on steps, a finding reports the version that the one row of
     // `project` has, if it is later.

@@ -26,8 +26,10 @@ pub enum Key {
 /// What keeps a database from holding a sound project, or the sound project that it holds from an upgrade.
 #[derive(Drop)]
 pub enum Finding {
-    /// A table is missing or altered.
+    /// A table is missing or altered. If that is the table `project`, nothing has a name that a new project gives.
     Tables(Misfit),
+    /// There is no table `project`, and something has this name, which a new project gives. So no project can be made.
+    Barred(&'static str),
     /// A row is that of no value, or is missing.
     Row(WrongRow),
     /// The row of a host has other sums than its grants.

@@ -63,6 +63,10 @@ misfit_line (misfit.Missing table) = codes "table " ++ name_of table ++ missing_
 misfit_line (misfit.Altered table) = codes "table " ++ name_of table ++ codes " is not that of a project" ++ line_end
 misfit_line misfit.HostNames = codes "table host has an index that does not compare names by their bytes" ++ line_end
 
+-- The line of a name that something has and that a new project gives, where there is no table `project`.
+abbrev pub barred_line : List ℕ → List ℕ
+barred_line name = codes "table project is missing, and something has the name " ++ (name ++ (codes ": no project can be made" ++ line_end))
+
 -- The line of a host with the total and the number of grants that its row keeps, and those that its grants have.
 abbrev pub sums_line : OtherSums → List ℕ
 sums_line sums =
@@ -75,6 +79,7 @@ taken_line version name = codes "version " ++ (decimal version ++ (codes " has n
 -- The line of a finding.
 abbrev pub finding_line : Finding → List ℕ
 finding_line (finding.Tables misfit) = misfit_line misfit
+finding_line (finding.Barred name) = barred_line name.now
 finding_line (finding.Row wrong) = row_front wrong.table ++ decimal wrong.place ++ codes " " ++ codes "is missing, or none of a project" ++ line_end
 finding_line (finding.Sums sums) = sums_line sums
 finding_line (finding.Version version) = codes "version " ++ decimal version ++ codes " " ++ codes "is not known" ++ line_end

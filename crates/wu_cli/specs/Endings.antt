@@ -62,6 +62,7 @@ outsider_line (outsider.Export (export.Backup to)) = codes "a backup cannot stan
 outsider_line (outsider.Export (export.Outputs files)) = codes "outputs cannot stand in a script" ++ line_end
 outsider_line outsider.Lint = codes "a lint cannot stand in a script" ++ line_end
 outsider_line outsider.Explanation = codes "an explanation cannot stand in a script" ++ line_end
+outsider_line outsider.Help = codes "help cannot stand in a script" ++ line_end
 
 abbrev pub refusal_text : Refusal → List ℕ
 refusal_text (refusal.Text cause) = cause_text cause

@@ -35,7 +35,11 @@ pub fn explain<W: Write>(alloc: Global, topic: &Topic, out: &mut W) -> Result<()
     // words name no topic, which is reported, and nothing goes out.
     ensures { ExplainsTopic W.contents out.old out.new result }
 {
-    let told = explanation(text_or_empty(&topic.name), text_or_empty(&topic.detail));
+    let told = explanation(
+        text_or_empty(&topic.name),
+        text_or_empty(&topic.detail),
+        topic.fault_detail.is_some(),
+    );
     let Some(text) = told else {
         let near = near_topic(alloc, topic);
         return Err(Trouble::Usage(Usage::UnknownTopic(near)));

@@ -5,7 +5,7 @@ ghost use Rattle.std.specs.Fmt.{decimal};
 ghost use Rattle.wu_core.specs.declared.fault.Fault.TheVariants.{Output};
 ghost use Rattle.wu_report.specs.Texts.{line_end};
 ghost use Rattle.wu_report.specs.Writing.{WritesTo};
-ghost use Rattle.wu_cli.specs.Checks.{finding_line, key_text, misfit_line, missing_text, row_front, sound_line, sums_line, taken_line};
+ghost use Rattle.wu_cli.specs.Checks.{barred_line, finding_line, key_text, misfit_line, missing_text, row_front, sound_line, sums_line, taken_line};
 
 use crate::texts::{placed, write_flushed, write_line};
 use std::io::Write;
@@ -105,6 +105,21 @@ fn line_of_misfit<W: Write>(out: &mut W, misfit: Misfit) -> Result<(), Fault>
     }
 }
 
+/// Writes which name of a new project something has, where there is no table `project`.
+fn line_of_barred<W: Write>(out: &mut W, name: &str) -> Result<(), Fault>
+    ensures { WritesTo W.contents out.old out.new (barred_line name.now) result }
+{
+    write_flushed(
+        out,
+        &[
+            Piece::Text("table project is missing, and something has the name "),
+            Piece::Text(name),
+            Piece::Text(": no project can be made"),
+            Piece::Text("\n"),
+        ],
+    )
+}
+
 /// Writes which row is wrong, and how.
 fn line_of_row<W: Write>(out: &mut W, key: &Key, what: &str) -> Result<(), Fault>
     ensures { WritesTo W.contents out.old out.new
@@ -163,6 +178,7 @@ pub(crate) fn line_of_finding<W: Write>(out: &mut W, finding: &Finding) -> Resul
 {
     match finding {
         Finding::Tables(misfit) => line_of_misfit(out, *misfit),
+        Finding::Barred(name) => line_of_barred(out, *name),
         Finding::Row(wrong) => placed(
             out,
             row_front(wrong.table),

@@ -197,6 +197,7 @@ fn outsider_line(outsider: &Outsider) -> &'static str
         Outsider::Export(Export::Outputs(_)) => "outputs cannot stand in a script\n",
         Outsider::Lint => "a lint cannot stand in a script\n",
         Outsider::Explanation => "an explanation cannot stand in a script\n",
+        Outsider::Help => "help cannot stand in a script\n",
     }
 }
 

@@ -51,11 +51,15 @@ fn text_of_word<'a>(word: &str) -> Option<&'a str>
     subcommand_text(word)
 }
 
-/// Returns the explanation of a topic, by its words in lower case; `None` if there is no such topic.
-fn text_of_words<'a>(first: &str, second: &str) -> Option<&'a str>
+/// Returns the explanation of a topic, by its words in lower case, and by whether further words stand after them, as
+/// only a fault has them; `None` if there is no such topic.
+fn text_of_words<'a>(first: &str, second: &str, goes_on: bool) -> Option<&'a str>
     // A text that is returned is not empty.
     ensures { IfSome result (λ text. 1 ≤ length text.now) }
 {
+    if goes_on {
+        return printed_fault_text(first, second);
+    }
     if second.is_empty() {
         return text_of_word(first);
     }
@@ -68,13 +72,14 @@ fn text_of_words<'a>(first: &str, second: &str) -> Option<&'a str>
 }
 
 /// Returns the explanation of a topic: its first word, and the second one, empty where there is none, both in any case.
-/// Without a word it is the list of all topics. Returns `None` if there is no such topic.
-pub fn explanation<'a>(first: &str, second: &str) -> Option<&'a str>
+/// Without a word it is the list of all topics. A fault may go on with further words, as it is printed. Returns `None`
+/// if there is no such topic.
+pub fn explanation<'a>(first: &str, second: &str, goes_on: bool) -> Option<&'a str>
     // A text that is returned is not empty.
     ensures { IfSome result (λ text. 1 ≤ length text.now) }
 {
     // as F17 prints it; in other cases it is a cause of F3
-    if first == "Output" && second.is_empty() {
+    if first == "Output" && second.is_empty() && !goes_on {
         return named_fault_text("f17");
     }
     let mut first_room = [0; MOST_BYTES];
@@ -83,7 +88,7 @@ pub fn explanation<'a>(first: &str, second: &str) -> Option<&'a str>
         lowered(first, &mut first_room),
         lowered(second, &mut second_room),
     ) {
-        (Some(first), Some(second)) => text_of_words(first, second),
+        (Some(first), Some(second)) => text_of_words(first, second, goes_on),
         _ => None,
     }
 }

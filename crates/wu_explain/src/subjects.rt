@@ -168,7 +168,8 @@ a copy of both files, and go back to a copy that a check calls sound.
 The order is: tables, their rows, rows that do not agree, the queue, and last the
 names that an upgrade gives. If something has such a name, the project is sound,
 and only its upgrade is refused: set back a version that was lowered by hand, or
-rename what has the name.
+rename what has the name. If there is no table project, and something has a name that
+a new project gives, no command can make one: rename that, or take another file.
 A table that has somebody's trigger is told as missing, or its file as no database
 that this program reads. So is a file with a row that refers to none. sqlite3 finds
 both by

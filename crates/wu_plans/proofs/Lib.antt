@@ -1,11 +1,11 @@
 mod PlanLemmas
-mod PassPlanLemmas
+pub mod PassPlanLemmas
 mod SumLemmas
 pub mod BatchLemmas
 pub mod AskLemmas
 pub mod ExitLemmas
 mod NamedLemmas
-mod TouchedLemmas
+pub mod TouchedLemmas
 mod FileLemmas
 mod ImportPlans
 mod CancelLemmas

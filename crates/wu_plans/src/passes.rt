@@ -231,7 +231,7 @@ fn handle<'a>(
 }
 
 /// Adds one change that keeps the grants at consecutive places, from this one on, with their sums.
-fn with_grants(
+pub fn with_grants(
     alloc: Global,
     changes: &mut Vec<Change<'_>>,
     place: u64,
@@ -250,14 +250,17 @@ fn with_grants(
 }
 
 /// Adds the archived rows at consecutive places, from this one on.
-fn with_archived(
+pub fn with_archived(
     changes: &mut Vec<Change<'_>>,
     place: u64,
     archived: Vec<Archived>,
 ) -> Result<(), Fault>
+    // The place is at most 2^63.
     requires { place ≤ 2 ^ 63 }
+    // The rows get consecutive places from this one on.
     ensures added { IfOk result (λ _.
         changes.new.items ≡ changes.old.items ++ archived_from place archived.items) }
+    // The only fault is `Memory`.
     ensures fault { IfErr result (λ fault. fault ≡ Memory) }
 {
     let mut seq = place;

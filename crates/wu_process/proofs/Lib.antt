@@ -1,2 +1,3 @@
+pub mod BackupLemmas
 pub mod CopyLemmas
 pub mod RunLemmas

@@ -1,6 +1,6 @@
 -- A backup of a database, from its path to the new file. The files are copied, and the copy is checked and closed, so
--- that its one file holds the project without a log.
-use Rattle.std.specs.Prelude.{◌≡◌, ◌⊎◌, ℕ, List, MatchResult, Result, Ok, Err, ⊤}
+-- that its one file holds the project without a log. Or the project's world is loaded, and a new database filled with it.
+use Rattle.std.specs.Prelude.{◌≡◌, ◌⊎◌, ℕ, List, [], MatchResult, Option, Some, Result, Ok, Err, ⊤}
 use Rattle.sqlite_disk.specs.Memory.{memory_bytes}
 use Rattle.sqlite_disk.specs.declared.Disk.{Ghosts}
 use Rattle.sqlite_disk.specs.declared.Files.{Files}
@@ -8,6 +8,7 @@ use Rattle.sqlite_disk.specs.declared.memory.Memory.{Memory}
 use Rattle.sqlite_store.specs.declared.store.FileStore.{FileStore}
 use Rattle.sqlite.specs.Files.{over_files}
 use Rattle.sqlite.specs.Held.{Held}
+use Rattle.sqlite.specs.Store.{Ghosts as StoreGhosts}
 use Rattle.sqlite.specs.declared.error.Error.{Error}
 use Rattle.wu_cli.specs.Backups.{CountsSound}
 use Rattle.wu_cli.specs.Checks.{reason_of_copy}
@@ -16,29 +17,62 @@ use Rattle.wu_cli.specs.declared.backup.Unmade.{Unmade}
 use Rattle.wu_cli.specs.declared.reason.Reason.{Reason}
 use Rattle.wu_cli.specs.declared.trouble.Trouble.{Trouble}
 use Rattle.wu_cli.specs.declared.trouble.Trouble.TheVariants as trouble
+use Rattle.wu_core.specs.World.{World}
+use Rattle.wu_core.specs.declared.fault.Fault.{Fault}
+use Rattle.wu_refill.specs.Loading.{FindsAlone}
+use Rattle.wu_refill.specs.Making.{MakesFilled}
+use Rattle.wu_schema.specs.Asking.{Asks}
+use Rattle.wu_schema.specs.Calls.{Commits}
 use Rattle.wu_process.specs.Checks.{IsOpenedIn, IsUnopenedIn}
 use Rattle.wu_process.specs.Closing.{IsClosedInto, IsLeftUnclosed}
 use Rattle.wu_process.specs.Copies.{AreCopiedFrom, memory_disk}
+use Rattle.wu_process.specs.declared.backup.Checked.{Checked}
 use Rattle.wu_process.specs.declared.backup.Folded.{Folded}
 
 -- A new file may have any bytes: no clause can say what is at a path.
 abbrev pub may_become : List ℕ → List ℕ → Type 0
 may_become path bytes = ⊤
 
+-- The world of a sound project with these numbers was loaded, if a new file can be made of it; or it was not. A fault of
+-- the store is reported.
+pub record LoadsWorld {S : Type 0} (g : StoreGhosts S) (old new : Held S) (its : Counts) (done : Result Checked Trouble) : Type 0 where
+  pub world : Result (Option World) Fault
+  pub asks : Asks g old new world
+  pub found : FindsAlone g old new world
+  pub gives : MatchResult world (λ it. done ≡ Ok (record { counts = its; world = it })) (λ fault. done ≡ Err (trouble.Fault fault))
+
+-- The open database is checked. Of a sound project the numbers are returned, and the world, if it was loaded. Else the
+-- trouble is why not.
+pub record ChecksSound {S : Type 0} (g : StoreGhosts S) (old new : Held S) (done : Result Checked Trouble) : Type 0 where
+  pub mid : Held S
+  pub counts : Result Counts Trouble
+  pub checks : CountsSound g old mid counts
+  pub loads : MatchResult counts (λ its. LoadsWorld g mid new its done) (λ told. done ≡ Err told)
+
+-- In an open database with none of a project's tables, a project with this world was made and committed.
+abbrev pub IsFilled : {S : Type 0} → StoreGhosts S → Held S → World → Held S → Type 0
+IsFilled g old world new = Commits {T = Unit {0}} {E = Fault} g old new (Ok (tt {0})) (MakesFilled world)
+
 module _ {D : Type 0} {g : Ghosts D} where
   -- A sound project was closed into these files; or its close failed, which is reported as out of memory or a failed
   -- copy.
-  abbrev pub ClosesFolded : Held (FileStore D g) → Counts → Result (Folded D) Trouble → Type 0
-  ClosesFolded conn counts (Ok it) = (it.counts ≡ counts) × IsClosedInto conn it.files
-  ClosesFolded conn counts (Err told) =
+  abbrev pub ClosesFolded : Held (FileStore D g) → Checked → Result (Folded D) Trouble → Type 0
+  ClosesFolded conn checked (Ok it) = (it.checked ≡ checked) × IsClosedInto conn it.files
+  ClosesFolded conn checked (Err told) =
       (error : Error) × (last : FileStore D g) × (told ≡ trouble.Unchecked (reason_of_copy error)) × IsLeftUnclosed conn error last
 
-  -- An open database is checked. If it is a sound project, it is closed, with its numbers; else the trouble is why not.
+  -- An open database is checked. If it is a sound project, it is closed; else the trouble is why not.
   pub record Folds (conn : Held (FileStore D g)) (done : Result (Folded D) Trouble) : Type 0 where
     pub again : Held (FileStore D g)
-    pub counts : Result Counts Trouble
-    pub checks : CountsSound over_files conn again counts
-    pub ends : MatchResult counts (λ its. ClosesFolded again its done) (λ told. done ≡ Err told)
+    pub checked : Result Checked Trouble
+    pub checks : ChecksSound over_files conn again checked
+    pub ends : MatchResult checked (λ it. ClosesFolded again it done) (λ told. done ≡ Err told)
+
+  -- In an open database a project with this world was made, and it was closed into these files.
+  pub record IsFilledInto (conn : Held (FileStore D g)) (world : World) (files : Files D) : Type 0 where
+    pub again : Held (FileStore D g)
+    pub fills : IsFilled over_files conn world again
+    pub closed : IsClosedInto again files
 
 module _ {D : Type 0} (g : Ghosts D) where
   -- The database in the files is opened, checked and closed; or it cannot be opened.
@@ -46,16 +80,34 @@ module _ {D : Type 0} (g : Ghosts D) where
   FoldsFiles files done =
       ((conn : Held (FileStore D g)) × IsOpenedIn files conn × Folds conn done) ⊎ ((told : Trouble) × IsUnopenedIn g files told × (done ≡ Err told))
 
+-- These files are those of a new database that was opened in two empty files, and has this world and nothing else.
+pub record IsFilledWith (world : World) (files : Files Memory) : Type 0 where
+  pub empty : Files Memory
+  pub blank : (memory_bytes empty.log ≡ []) × (memory_bytes empty.db ≡ [])
+  pub conn : Held (FileStore Memory memory_disk)
+  pub opened : IsOpenedIn empty conn
+  pub fills : IsFilledInto conn world files
+
+-- These files are those of a new database with the world that was loaded.
+abbrev pub IsRefillOf : Folded Memory → Files Memory → Type 0
+IsRefillOf folded files = (world : World) × (folded.checked.world ≡ Some world) × IsFilledWith world files
+
 module _ (makes : List ℕ → List ℕ → Type 0) where
-  -- The new file has the bytes of the one that was closed, and its numbers are returned; or it is not made, for this
-  -- reason.
-  abbrev pub MakesFile : List ℕ → Folded Memory → Result Counts Trouble → Type 0
-  MakesFile to folded (Ok counts) = makes to (memory_bytes folded.files.db) × (counts ≡ folded.counts)
-  MakesFile to folded (Err told) = (why : Unmade) × (told ≡ trouble.Unmade why)
+  -- The new file has the bytes of this one, and these numbers are returned; or it is not made, for this reason.
+  abbrev pub MakesFile : List ℕ → Files Memory → Counts → Result Counts Trouble → Type 0
+  MakesFile to files counts (Ok told) = makes to (memory_bytes files.db) × (told ≡ counts)
+  MakesFile to files counts (Err told) = (why : Unmade) × (told ≡ trouble.Unmade why)
+
+  -- The new file has the bytes of the one that was closed, or of a new database with the world that was loaded. The
+  -- numbers are those of the check.
+  pub record BecomesFile (to : List ℕ) (folded : Folded Memory) (made : Result Counts Trouble) : Type 0 where
+    pub files : Files Memory
+    pub source : (files ≡ folded.files) ⊎ IsRefillOf folded files
+    pub makes_file : MakesFile to files folded.checked.counts made
 
   -- What became of the copy: its new file, or the trouble that kept it from one.
   abbrev pub EndsBackup : List ℕ → Result (Folded Memory) Trouble → Result Counts Trouble → Type 0
-  EndsBackup to (Ok folded) made = MakesFile to folded made
+  EndsBackup to (Ok folded) made = BecomesFile to folded made
   EndsBackup to (Err told) made = made ≡ Err told
 
   -- These bytes were read of the files at the path. A copy with exactly these bytes is checked and closed, and becomes

@@ -1,32 +1,80 @@
 //! A backup of a database: its files are copied into memory, the copy is checked and closed, and becomes a new file.
 
-ghost use Rattle.std.specs.Prelude.{IsTrue};
-ghost use Rattle.wu_process.specs.Backups.{ClosesFolded, Folds, FoldsFiles, MakesBackup, MakesFile};
+ghost use Rattle.std.specs.Prelude.{◌≡◌, false, IfOk, IfSome, IsTrue};
+ghost use Rattle.wu_process.specs.Backups.{BecomesFile, ChecksSound, ClosesFolded, Folds, FoldsFiles, IsFilled, IsFilledInto, IsFilledWith, IsRefillOf, MakesBackup, MakesFile};
+ghost use Rattle.wu_process.specs.Closing.{IsClosedInto};
+ghost use Rattle.wu_refill.specs.Loading.{FindsAlone};
+ghost use Rattle.wu_refill.specs.Refilling.{MayBeRefilled};
+ghost use Rattle.wu_schema.specs.Asking.{Asks};
 
 use crate::check::{open_copy, options};
 use crate::copy::copy_files;
+use crate::header::has_many_free_pages;
 use crate::new_file::{MakeFile, refuse_path};
-use sqlite::{Connection, FileStore, Files, Options};
+use sqlite::{Alter, Connection, FileStore, Files, Options};
 use sqlite_disk::{Disk, Memory};
 use std::alloc::Global;
+use wu_audit::Loaded;
 use wu_cli::{Counts, Reason, Trouble, count_sound};
+use wu_core::Fault;
+use wu_refill::{create_filled, load_alone};
 
-/// The two files of a sound project that was closed, so that the one of the database holds it alone, and its numbers.
+/// What was found of a sound project: its numbers, and its world, if a new file can be made of that.
+#[derive(Drop)]
+pub struct Checked {
+    pub counts: Counts,
+    pub world: Option<Loaded>,
+}
+
+/// The two files of a sound project that was closed, so that the one of the database holds it alone.
 #[derive(Drop)]
 pub struct Folded<D: Disk> {
     pub files: Files<D>,
-    pub counts: Counts,
+    pub checked: Checked,
 }
 
-/// Closes the database of a sound project with these numbers.
+/// Returns the world of a sound project, if it is wanted and a new file can be made of it.
+fn load_if<S: Alter>(
+    alloc: Global,
+    conn: &mut Connection<S>,
+    is_wanted: bool,
+) -> Result<Option<Loaded>, Fault>
+    ensures asks { Asks S.Store conn.old conn.new result }
+    ensures may { IfOk result (λ found. IfSome found MayBeRefilled) }
+    ensures found { FindsAlone S.Store conn.old conn.new result }
+{
+    if is_wanted {
+        load_alone(conn, alloc)
+    } else {
+        Ok(None)
+    }
+}
+
+/// Checks an open database, and loads its world, if that is wanted and a new file can be made of it.
+///
+/// It stands over any store: what is asked of one over files is proved again at each such call.
+fn check_sound<S: Alter>(
+    alloc: Global,
+    conn: &mut Connection<S>,
+    wants_world: bool,
+) -> Result<Checked, Trouble>
+    ensures checks { ChecksSound S.Store conn.old conn.new result }
+    ensures may { IfOk result (λ it. IfSome it.world MayBeRefilled) }
+{
+    let counts = count_sound(alloc, conn)?;
+    let world = load_if(alloc, conn, wants_world)?;
+    Ok(Checked { counts, world })
+}
+
+/// Closes the database of a sound project.
 fn close_folded<D: Disk + Drop>(
     conn: Connection<FileStore<D>>,
-    counts: Counts,
+    checked: Checked,
 ) -> Result<Folded<D>, Trouble>
-    ensures { ClosesFolded conn counts result }
+    ensures { ClosesFolded conn checked result }
 {
     match conn.close_files() {
-        Ok(files) => Ok(Folded { files, counts }),
+        Ok(files) => Ok(Folded { files, checked }),
         Err((error, _store)) => Err(Trouble::Unchecked(Reason::of_copy(&error))),
     }
 }
@@ -35,12 +83,14 @@ fn close_folded<D: Disk + Drop>(
 fn check_and_close<D: Disk + Drop>(
     alloc: Global,
     conn: Connection<FileStore<D>>,
+    wants_world: bool,
 ) -> Result<Folded<D>, Trouble>
-    ensures { Folds conn result }
+    ensures folds { Folds conn result }
+    ensures may { IfOk result (λ it. IfSome it.checked.world MayBeRefilled) }
 {
     let mut conn = conn;
-    let counts = count_sound(alloc, &mut conn)?;
-    close_folded(conn, counts)
+    let checked = check_sound(alloc, &mut conn, wants_world)?;
+    close_folded(conn, checked)
 }
 
 /// Opens the database in two files, checks it, and closes it. If it cannot be opened, the trouble is why.
@@ -48,33 +98,128 @@ fn fold<D: Disk + Drop>(
     alloc: Global,
     files: Files<D>,
     options: Options,
+    wants_world: bool,
 ) -> Result<Folded<D>, Trouble>
     requires log { IsTrue (D.Disk.is_usable files.log) }
     requires db { IsTrue (D.Disk.is_usable files.db) }
-    ensures { FoldsFiles D.Disk files result }
+    ensures folds { FoldsFiles D.Disk files result }
+    ensures may { IfOk result (λ it. IfSome it.checked.world MayBeRefilled) }
 {
     match open_copy(alloc, files, options) {
-        Ok(conn) => check_and_close(alloc, conn),
+        Ok(conn) => check_and_close(alloc, conn, wants_world),
         Err(trouble) => Err(trouble),
     }
 }
 
-/// Makes the file of a backup from what was closed. Returns its numbers.
+/// Makes a project with a world in an open database. Where that fails, nothing is returned.
+///
+/// It stands over any store: what is asked of one over files is proved again at each such call and drop.
+fn fill<S: Alter + Drop>(
+    alloc: Global,
+    conn: Connection<S>,
+    world: &Loaded,
+) -> Option<Connection<S>>
+    requires idle { conn.in_transaction ≡ false }
+    requires may { MayBeRefilled world.now }
+    ensures { IfSome result (IsFilled S.Store conn world.now) }
+{
+    let mut conn = conn;
+    match create_filled(&mut conn, alloc, world) {
+        Ok(()) => Some(conn),
+        Err(_) => None,
+    }
+}
+
+/// Closes a database. Where that fails, nothing is returned.
+fn close<D: Disk + Drop>(conn: Connection<FileStore<D>>) -> Option<Files<D>>
+    ensures { IfSome result (IsClosedInto conn) }
+{
+    match conn.close_files() {
+        Ok(files) => Some(files),
+        Err((_error, _store)) => None,
+    }
+}
+
+/// Makes a project with a world in an open database, and closes it. Where that fails, nothing is returned.
+fn fill_and_close<D: Disk + Drop>(
+    alloc: Global,
+    conn: Connection<FileStore<D>>,
+    world: &Loaded,
+) -> Option<Files<D>>
+    requires idle { conn.in_transaction ≡ false }
+    requires may { MayBeRefilled world.now }
+    ensures { IfSome result (IsFilledInto conn world.now) }
+{
+    match fill(alloc, conn, world) {
+        Some(conn) => close(conn),
+        None => None,
+    }
+}
+
+/// Makes two new files in memory with a project that has a world. Where that fails, nothing is returned.
+fn fill_files(alloc: Global, world: &Loaded, options: Options) -> Option<Files<Memory>>
+    requires { MayBeRefilled world.now }
+    ensures { IfSome result (IsFilledWith world.now) }
+{
+    let files = Files {
+        log: Memory::new(alloc),
+        db: Memory::new(alloc),
+    };
+    match open_copy(alloc, files, options) {
+        Ok(conn) => fill_and_close(alloc, conn, world),
+        Err(_) => None,
+    }
+}
+
+/// Makes new files with the world of a sound project, if it was loaded. Where that fails, nothing is returned.
+fn refill_files(alloc: Global, folded: &Folded<Memory>, options: Options) -> Option<Files<Memory>>
+    requires { IfSome folded.now.checked.world MayBeRefilled }
+    ensures { IfSome result (IsRefillOf folded.now) }
+{
+    match &folded.checked.world {
+        Some(world) => fill_files(alloc, world, options),
+        None => None,
+    }
+}
+
+/// Makes the file of a backup from two files that were closed. Returns the project's numbers.
 fn make_file<F: MakeFile>(
     new_files: &F,
     to: &str,
-    folded: &Folded<Memory>,
+    files: &Files<Memory>,
+    counts: Counts,
 ) -> Result<Counts, Trouble>
-    ensures { MakesFile (F.MakeFile.makes new_files.now) to.now folded.now result }
+    ensures { MakesFile (F.MakeFile.makes new_files.now) to.now files.now counts result }
 {
-    match new_files.make(to, folded.files.db.bytes()) {
-        Ok(()) => Ok(folded.counts),
+    match new_files.make(to, files.db.bytes()) {
+        Ok(()) => Ok(counts),
         Err(why) => Err(Trouble::Unmade(why)),
+    }
+}
+
+/// Makes the file of a backup from a sound project that was closed: of its world, if that was loaded, and else of its
+/// pages.
+fn make_folded<F: MakeFile>(
+    alloc: Global,
+    new_files: &F,
+    to: &str,
+    folded: &Folded<Memory>,
+    options: Options,
+) -> Result<Counts, Trouble>
+    requires { IfSome folded.now.checked.world MayBeRefilled }
+    ensures { BecomesFile (F.MakeFile.makes new_files.now) to.now folded.now result }
+{
+    let counts = folded.checked.counts;
+    match refill_files(alloc, folded, options) {
+        Some(files) => make_file(new_files, to, &files, counts),
+        None => make_file(new_files, to, &folded.files, counts),
     }
 }
 
 /// Makes a new file with a copy of the sound project in the database at a path, which this process may have open. The
 /// new file has no log. A path at which something lies is refused. Returns the project's numbers.
+///
+/// Where many pages of the database are free, the new file is made of the project's world, and is smaller.
 pub fn make_backup<F: MakeFile>(
     rt: &HostRuntime,
     path: &str,
@@ -82,8 +227,9 @@ pub fn make_backup<F: MakeFile>(
     new_files: &F,
     is_open: bool,
 ) -> Result<Counts, Trouble>
-    // The files' bytes are copied, the copy is a sound project, and the new file has the bytes of
-    // the copy after its close, which hold the project without a log. Else the trouble is why not.
+    // The files' bytes are copied, and the copy is a sound project. The new file has the bytes of
+    // the copy after its close, which hold the project without a log; or those of a new database
+    // that has its world. Else the trouble is why not.
     ensures { MakesBackup (F.MakeFile.makes new_files.now) path.now to.now result }
 {
     if let Err(why) = refuse_path(rt, to) {
@@ -93,6 +239,7 @@ pub fn make_backup<F: MakeFile>(
         Ok(files) => files,
         Err(reason) => return Err(Trouble::Unchecked(reason)),
     };
-    let folded = fold(rt.alloc(), files, options(rt))?;
-    make_file(new_files, to, &folded)
+    let wants_world = has_many_free_pages(files.db.bytes());
+    let folded = fold(rt.alloc(), files, options(rt), wants_world)?;
+    make_folded(rt.alloc(), new_files, to, &folded, options(rt))
 }

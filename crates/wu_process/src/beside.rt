@@ -15,9 +15,6 @@ use wu_core::Fault;
 /// The bytes with which each database begins, after its first one.
 const HEADER_REST: &[u8] = b"QLite format 3\0";
 
-/// How many of the first bytes of a file are looked at.
-const HEADER_LEN: usize = 16;
-
 /// The first byte of a log. A new log begins with 0 until it is whole.
 const LOG_BEGINS: u8 = 0x37;
 
@@ -84,7 +81,8 @@ pub fn is_foreign(rt: &HostRuntime, path: &str) -> Result<bool, Fault>
     if is_no_file(rt, path) {
         return Ok(false);
     }
-    let Some(bytes) = HostFiles::new(rt).read(path, HEADER_LEN - 1)? else {
+    // Of a longer file one byte more is read.
+    let Some(bytes) = HostFiles::new(rt).read(path, HEADER_REST.len())? else {
         return Ok(false);
     };
     match bytes.first() {
@@ -126,10 +124,11 @@ fn is_barred_at(rt: &HostRuntime, path: &str) -> Result<bool, Fault>
     Ok(!has_log(rt, path)? && is_foreign(rt, path)?)
 }
 
-/// Refuses a database that must not be opened, because the opening would destroy or make files that are not its own:
-/// where the path names a log, where a log or a journal has lost its database, where no file lies at the path or a file
-/// without a log that is no database, and where something else lies in the place of the log. Out of memory is reported as
-/// `Memory`.
+/// Refuses a database that must not be opened, because the opening would destroy or make files that are not its own.
+///
+/// So it is where the path names a log, and where a log or a journal has lost its database. So it is, too, where no file
+/// lies at the path, a file without a log that is no database, or something else in the place of the log. Out of memory
+/// is reported as `Memory`.
 pub fn bar(rt: &HostRuntime, path: &str) -> Result<(), Trouble>
     // A refusal is reported as a database that cannot be opened, or as out of memory.
     ensures { IfErr result IsBar }

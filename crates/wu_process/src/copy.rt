@@ -5,13 +5,13 @@ ghost use Rattle.wu_cli.specs.declared.reason.Reason.TheVariants.{Memory as Want
 ghost use Rattle.wu_process.specs.Copies.{AreCopiedFrom, AreCopiesOf, IsCopyOf};
 
 use crate::beside::{has_content_beside, has_foreign_log, has_log, is_foreign};
+use crate::header::refuse_other_kind;
 use sqlite::{FileFrom, Files};
 use sqlite_disk::{Disk, Memory, Wary};
 use sqlite_std_file::OpenError;
 use std::alloc::Global;
 use std::fs;
 use std::io::{self, ErrorKind};
-use std::ops::Range;
 use std::os::unix::fs::MetadataExt;
 use std::time::SystemTime;
 use wu_cli::Reason;
@@ -72,27 +72,6 @@ fn refuse_journal(rt: &HostRuntime, path: &str) -> Result<(), Reason> {
         Ok(_) => Err(Reason::Journal),
         Err(error) => Err(Reason::of_file(&error)),
     }
-}
-
-/// Where the header of a database has the largest root page, which is 0 unless the file shrinks by itself, and the
-/// encoding of its texts, which is 1 for UTF-8.
-const LARGEST_ROOT: Range<usize> = 52..56;
-
-const ENCODING: Range<usize> = 56..60;
-
-/// Refuses a database of a kind that the store does not read: with auto-vacuum, or with texts in UTF-16. One that has no
-/// header yet is not refused.
-fn refuse_other_kind(db: &[u8]) -> Result<(), Reason> {
-    let has_vacuum = db
-        .get(LARGEST_ROOT)
-        .is_some_and(|root| root != [0, 0, 0, 0].as_slice());
-    let has_utf16 = db.get(ENCODING).is_some_and(|encoding| {
-        encoding != [0, 0, 0, 0].as_slice() && encoding != [0, 0, 0, 1].as_slice()
-    });
-    if has_vacuum || has_utf16 {
-        return Err(Reason::OtherKind);
-    }
-    Ok(())
 }
 
 /// Returns the bytes of both files, if no journal lies beside them, before the reading and after it.
@@ -180,7 +159,7 @@ fn read_database<'a>(rt: &HostRuntime, path: &'a str) -> Result<FileBytes<'a>, R
     let log = format!(in rt.alloc(); "{}-wal", real.as_str()).map_err(|_| Reason::Memory)?;
     refuse_foreign(rt, real.as_str())?;
     let bytes = read_at_once(rt, path, real.as_str(), log.as_str())?;
-    refuse_other_kind(&bytes.db)?;
+    refuse_other_kind(&bytes.log, &bytes.db)?;
     Ok(bytes)
 }
 

@@ -19,6 +19,7 @@ mod database;
 mod expected;
 mod export;
 mod files;
+mod header;
 mod hints;
 mod new_file;
 mod opening;

@@ -1,7 +1,7 @@
 -- From what a backup did to what its new file holds.
-use Rattle.std.proofs.Common.{◌≡◌, ◌∙◌, ℕ, List, Option, Result, Ok, Err, inl, inr, refl, sym, ap, subst}
+use Rattle.std.proofs.Common.{◌≡◌, ◌∙◌, ℕ, List, Option, Some, Result, Ok, Err, inl, inr, refl, sym, ap, subst}
 use Rattle.std.proofs.Math.Logic.{∥∥₁_elim}
-use Rattle.std.specs.Prelude.{IfOk, MatchResult, OnOk}
+use Rattle.std.specs.Prelude.{IfOk, IfSome, MatchResult, OnOk}
 use Rattle.sqlite_disk.specs.Memory.{memory_bytes}
 use Rattle.sqlite_disk.specs.declared.Files.{Files}
 use Rattle.sqlite_disk.specs.declared.memory.Memory.{Memory}
@@ -11,24 +11,32 @@ use Rattle.sqlite_store.specs.declared.store.FileStore.{FileStore}
 use Rattle.sqlite.specs.Effect.{Database, IsDatabase}
 use Rattle.sqlite.specs.Files.{AreFoundIn, file_state, HoldsDatabase, image_of, over_files}
 use Rattle.sqlite.specs.Held.{Held}
-use Rattle.wu_check.specs.Checking.{HasWholeRows, IsKept}
 use Rattle.wu_check.specs.Findings.{IsSoundAs, SaysSound}
 use Rattle.wu_check.specs.declared.finding.Verdict.{Verdict}
 use Rattle.wu_check.specs.declared.finding.Verdict.TheVariants as verdict
 use Rattle.wu_core.specs.declared.fault.Fault.{Fault}
 use Rattle.wu_core.specs.World.{World}
 use Rattle.wu_lives.specs.Runs.{HoldsWorld}
-use Rattle.wu_schema.specs.Asking.{IsAsBefore}
+use Rattle.wu_passes.specs.Committing.{FoundAs}
+use Rattle.wu_refill.specs.Loading.{IsAlone}
+use Rattle.wu_schema.specs.Asking.{Asks, IsAsBefore}
+use Rattle.wu_schema.specs.Refines.{Refines}
+use Rattle.wu_stops.proofs.StoppingLemmas.{stands_still}
+use Rattle.wu_store.specs.StandsFor.{StandsFor}
 use Rattle.wu_cli.specs.Backups.{AreOfVerdict, CountsSound}
 use Rattle.wu_cli.specs.declared.backup.Counts.{Counts}
 use Rattle.wu_cli.specs.declared.trouble.Trouble.{Trouble}
-use Rattle.wu_process.specs.Backups.{ClosesFolded, Folds}
+use Rattle.wu_cli.specs.declared.trouble.Trouble.TheVariants as trouble
+use Rattle.wu_process.specs.Backups.{BecomesFile, ClosesFolded, Folds, IsFilledWith, LoadsWorld, may_become}
 use Rattle.wu_process.specs.Checks.{IsOpenedIn}
+use Rattle.wu_process.specs.Closing.{IsClosedInto}
 use Rattle.wu_process.specs.Copies.{memory_disk}
+use Rattle.wu_process.specs.declared.backup.Checked.{Checked}
 use Rattle.wu_process.specs.declared.backup.Folded.{Folded}
-use Rattle.wu_process_laws.specs.BackedUp.{EachBackupHolds, HoldsSame, IsBackupOf, without_log}
+use Rattle.wu_process_laws.specs.BackedUp.{EachBackupHolds, HasNoOthers, HoldsTables, IsBackupOf, without_log}
 use Rattle.wu_process_laws.specs.Checked.{FindsWith, image_of_bytes}
 use Rattle.wu_process_laws.proofs.Checked.{found_in_order, memory_clean}
+use Rattle.wu_process_laws.proofs.RefilledLemmas.{stands_again}
 
 -- what holds of an answer that gave numbers
 pub of_counts : (v : Result Verdict Fault) (its : Counts) (A : Type 0) → AreOfVerdict v (Ok its) → OnOk v A → A
@@ -44,68 +52,147 @@ sound_counts (Ok (verdict.Sound version workunits results)) its db gives says =
 sound_counts (Ok (verdict.Unsound found)) its db gives says = absurd cc
 sound_counts (Err fault) its db gives says = absurd cc
 
+-- of two answers that are the same
+same_checked : (a b : Checked) → ◌≡◌ {A = Result Checked Trouble} (Ok a) (Ok b) → a ≡ b
+same_checked a b same = cc
+
 -- ---- the copy that was closed
 
-module _ (files : Files Memory) (conn : Held (FileStore Memory memory_disk)) (opened : IsOpenedIn files conn) where
+abbrev Copy : Type 0
+Copy = Held (FileStore Memory memory_disk)
+
+-- what is as before has the same database
+module _ (a b : Copy) (same : IsAsBefore over_files a b) where
+  same_committed : (file_state b).committed ≡ (file_state a).committed
+  same_committed = elim same [
+    | inl is ↦ ap (λ (h : Copy). (file_state h).committed) is
+    | inr unchanged ↦ unchanged.0.committed_is
+  ]
+
+  same_now : (file_state b).now ≡ (file_state a).now
+  same_now = elim same [
+    | inl is ↦ ap (λ (h : Copy). (file_state h).now) is
+    | inr unchanged ↦ unchanged.0.now_is
+  ]
+
+module _ (files : Files Memory) (conn : Copy) (opened : IsOpenedIn files conn) where
   abbrev image : Image
   image = image_of memory_disk files
 
-  module _ (again : Held (FileStore Memory memory_disk)) (its : Counts) (checks : CountsSound over_files conn again (Ok its)) where
-    pub kept : IsAsBefore over_files conn again
-    kept = of_counts checks.verdict its _ checks.gives (checks.asks.answered (memory_clean again))
+  found_image : AreFoundIn image (file_state conn).now.trees
+  found_image =
+      let opens = opened.opens (memory_clean conn) in
+      subst (λ (d : Database). AreFoundIn image d.trees) (sym opens.0.clean) (opened.finds (memory_clean conn)).reads
 
-    committed : (file_state again).committed ≡ (file_state conn).committed
-    committed = elim kept [
-      | inl same ↦ ap (λ (h : Held (FileStore Memory memory_disk)). (file_state h).committed) same
-      | inr unchanged ↦ unchanged.0.committed_is
-    ]
+  -- the database of a world that the files hold is that of the world
+  pub found_stands : (world : World) → HoldsWorld image world → StandsFor (file_state conn).now world
+  found_stands world held =
+      let db = (file_state conn).now in
+      let opens = opened.opens (memory_clean conn) in
+      let finds = opened.finds (memory_clean conn) in
+      let same : db ≡ (file_state conn).committed = opens.0.clean in
+      let right : IsDatabase db = (opens.1 opens.0.is_open).0 in
+      let at : FoundAs (file_state conn).committed.trees world = subst (λ (ts : Trees). FoundAs ts world) (sym (finds.holds held.trees held.holds)) held.found in
+      stands_still at.database db world at.stands right (ap (λ (d : Database). d.trees) same ∙ sym at.same)
+
+  module _ (mid : Copy) (its : Counts) (checks : CountsSound over_files conn mid (Ok its)) where
+    pub kept : IsAsBefore over_files conn mid
+    kept = of_counts checks.verdict its _ checks.gives (checks.asks.answered (memory_clean mid))
 
     pub sound : FindsWith image (λ db. IsSoundAs db its.version its.workunits its.results)
     sound =
         let db = (file_state conn).now in
         let opens = opened.opens (memory_clean conn) in
-        let finds = opened.finds (memory_clean conn) in
-        let same : db ≡ (file_state conn).committed = opens.0.clean in
         let right : IsDatabase db = (opens.1 opens.0.is_open).0 in
-        let found : AreFoundIn image db.trees = subst (λ (d : Database). AreFoundIn image d.trees) (sym same) finds.reads in
         record {
           db = db;
-          found = found;
+          found = found_image;
           sound = right;
-          holds = λ whole. sound_counts checks.verdict its db checks.gives (checks.sound (memory_clean again) (record { ordered = found_in_order image db found right; whole = whole }));
+          holds = λ whole. sound_counts checks.verdict its db checks.gives (checks.sound (memory_clean mid) (record { ordered = found_in_order image db found_image right; whole = whole }));
         }
 
-  holds_same : (again : Held (FileStore Memory memory_disk)) (its : Counts) → CountsSound over_files conn again (Ok its)
-      → (folded : Folded Memory) → ClosesFolded again its (Ok folded) → HoldsSame image (memory_bytes folded.files.db)
-  holds_same again its checks folded (counts, closed) =
-      let copied = closed.copied refl in
-      let finds = opened.finds (memory_clean conn) in
-      let same = committed again its checks in
-      let tables : (db : Trees) → HoldsDatabase image db → ∥ HoldsDatabase (without_log (memory_bytes folded.files.db)) db ∥₁ =
-      λ db held. subst (λ (ts : Trees). ∥ HoldsDatabase (without_log (memory_bytes folded.files.db)) ts ∥₁) (ap (λ (d : Database). d.trees) same ∙ finds.holds db held) copied.seen.alone in
-      record {
-        tables = tables;
-        world = λ world held. ∥∥₁_elim (tables held.trees held.holds) squash₁ (λ it. ∣ record { trees = held.trees; holds = it; found = held.found } ∣₁);
-      }
+    -- the world was loaded, or not, and all is as before
+    loaded_as : (again : Copy) (world : Result (Option World) Fault) (checked : Checked) → Asks over_files mid again world
+        → MatchResult world (λ it. ◌≡◌ {A = Result Checked Trouble} (Ok checked) (Ok (record { counts = its; world = it }))) (λ fault. ◌≡◌ {A = Result Checked Trouble} (Ok checked) (Err (trouble.Fault fault)))
+        → (found : Option World) × (world ≡ Ok found) × (checked ≡ record { counts = its; world = found }) × IsAsBefore over_files mid again
+    loaded_as again (Ok found) checked asks gives = (found, refl, same_checked checked (record { counts = its; world = found }) gives, asks.answered (memory_clean again))
+    loaded_as again (Err fault) checked asks gives = absurd (let e = gives in cc)
 
-  backup_of : (done : Result (Folded Memory) Trouble) → Folds conn done → (folded : Folded Memory) → done ≡ Ok folded
-      → IsBackupOf image (memory_bytes folded.files.db) folded.counts
-  backup_of done folds folded is = go folds.counts folds.checks folds.ends
-    where
-      go : (counts : Result Counts Trouble) → CountsSound over_files conn folds.again counts → MatchResult counts (λ its. ClosesFolded folds.again its done) (λ told. done ≡ Err told)
-          → IsBackupOf image (memory_bytes folded.files.db) folded.counts
-      go (Ok its) checks ends =
-          let closes : ClosesFolded folds.again its (Ok folded) = subst (ClosesFolded folds.again its) is ends in
-          record {
-            holds = holds_same folds.again its checks folded closes;
-            sound = subst (λ (c : Counts). FindsWith image (λ db. IsSoundAs db c.version c.workunits c.results)) (sym closes.0) (sound folds.again its checks);
-          }
-      go (Err told) checks ends = absurd cc
+    module _ (again : Copy) (checked : Checked) (loads : LoadsWorld over_files mid again its (Ok checked)) where
+      abbrev loaded : (found : Option World) × (loads.world ≡ Ok found) × (checked ≡ record { counts = its; world = found }) × IsAsBefore over_files mid again
+      loaded = loaded_as again loads.world checked loads.asks loads.gives
+
+      its_counts : checked.counts ≡ its
+      its_counts = ap (λ (c : Checked). c.counts) loaded.2
+
+      -- the closed copy holds all tables
+      holds_tables : (closed : Files Memory) → IsClosedInto again closed → HoldsTables image (memory_bytes closed.db)
+      holds_tables closed closes db held =
+          let copied = closes.copied refl in
+          let finds = opened.finds (memory_clean conn) in
+          let same = same_committed mid again loaded.3 ∙ same_committed conn mid kept in
+          subst (λ (ts : Trees). ∥ HoldsDatabase (without_log (memory_bytes closed.db)) ts ∥₁) (ap (λ (d : Database). d.trees) same ∙ finds.holds db held) copied.seen.alone
+
+      -- a world that was loaded is that of each world of the files
+      alone : (it : World) → checked.world ≡ Some it → (world : World) → HoldsWorld image world → IsAlone (file_state conn).now it
+      alone it is world held =
+          let same = same_now conn mid kept in
+          let stands : Refines (file_state mid).now world = subst (λ (d : Database). Refines d world) (sym same) (found_stands world held).refines in
+          let found : loads.world ≡ Ok (Some it) = loaded.1 ∙ ap Ok (sym (ap (λ (c : Checked). c.world) loaded.2) ∙ is) in
+          let answer : IfOk loads.world (λ o. IfSome o (IsAlone (file_state mid).now)) = loads.found (memory_clean again) world stands in
+          let here : IsAlone (file_state mid).now it = subst (λ (r : Result (Option World) Fault). IfOk r (λ o. IfSome o (IsAlone (file_state mid).now))) found answer in
+          subst (λ (d : Database). IsAlone d it) same here
+
+      -- and new files with it hold each of these worlds
+      module _ (new : Files Memory) (it : World) (is : checked.world ≡ Some it) (filled : IsFilledWith it new) where
+        refilled : (world : World) → HoldsWorld image world → ∥ HoldsWorld (without_log (memory_bytes new.db)) world ∥₁
+        refilled world held =
+            let last = filled.fills.again in
+            let done = filled.fills.fills (memory_clean last) in
+            let copied = filled.fills.closed.copied refl in
+            let stands = stands_again (file_state conn).now (file_state last).now it world (alone it is world held).stands (found_stands world held).refines done.makes.stands in
+            ∥∥₁_elim copied.seen.alone squash₁ (λ holds. ∣ record {
+              trees = (file_state last).committed.trees;
+              holds = holds;
+              found = record { database = (file_state last).now; same = ap (λ (d : Database). d.trees) (sym done.committed); stands = stands };
+            } ∣₁)
+
+        no_others : (world : World) → HoldsWorld image world → HasNoOthers image
+        no_others world held = record { db = (file_state conn).now; found = found_image; only = (alone it is world held).only }
+
+  -- tables that are all there are those of each world
+  held_by_tables : (bytes : List ℕ) → HoldsTables image bytes → (world : World) → HoldsWorld image world → ∥ HoldsWorld (without_log bytes) world ∥₁
+  held_by_tables bytes tables world held = ∥∥₁_elim (tables held.trees held.holds) squash₁ (λ it. ∣ record { trees = held.trees; holds = it; found = held.found } ∣₁)
+
+  module _ (to : List ℕ) (folded : Folded Memory) (counts : Counts) (file : BecomesFile may_become to folded (Ok counts)) where
+    backup_closed : (mid again : Copy) (its : Counts) (checks : CountsSound over_files conn mid (Ok its)) (checked : Checked) → LoadsWorld over_files mid again its (Ok checked) → ClosesFolded again checked (Ok folded)
+        → IsBackupOf image (memory_bytes file.files.db) counts
+    backup_closed mid again its checks checked loads closes =
+        let numbers : its ≡ counts = sym (its_counts mid its checks again checked loads) ∙ sym (ap (λ (c : Checked). c.counts) closes.0) ∙ sym file.makes_file.1 in
+        let right = subst (λ (c : Counts). FindsWith image (λ db. IsSoundAs db c.version c.workunits c.results)) numbers (sound mid its checks) in
+        elim file.source [
+          | inl same ↦
+              let tables = subst (λ (f : Files Memory). HoldsTables image (memory_bytes f.db)) (sym same) (holds_tables mid its checks again checked loads folded.files closes.1) in
+              record { world = held_by_tables (memory_bytes file.files.db) tables; others = inl tables; sound = right }
+          | inr (it, of, filled) ↦
+              let is : checked.world ≡ Some it = sym (ap (λ (c : Checked). c.world) closes.0) ∙ of in
+              record { world = refilled mid its checks again checked loads file.files it is filled; others = inr (no_others mid its checks again checked loads file.files it is filled); sound = right }
+        ]
+
+    backup_counted : (mid again : Copy) (counted : Result Counts Trouble) → CountsSound over_files conn mid counted → (checked : Result Checked Trouble)
+        → MatchResult counted (λ its. LoadsWorld over_files mid again its checked) (λ told. checked ≡ Err told) → MatchResult checked (λ it. ClosesFolded again it (Ok folded)) (λ told. ◌≡◌ {A = Result (Folded Memory) Trouble} (Ok folded) (Err told))
+        → IsBackupOf image (memory_bytes file.files.db) counts
+    backup_counted mid again (Ok its) checks (Ok checked) loads closes = backup_closed mid again its checks checked loads closes
+    backup_counted mid again (Err why) checks (Ok checked) loads closes = absurd (let e = loads in cc)
+    backup_counted mid again counted checks (Err told) loads closes = absurd (let e = closes in cc)
+
+    backup_of : Folds conn (Ok folded) → IsBackupOf image (memory_bytes file.files.db) counts
+    backup_of folds = backup_counted folds.checks.mid folds.again folds.checks.counts folds.checks.checks folds.checked folds.checks.loads folds.ends
 
 pub each_backup : EachBackupHolds
-each_backup path to made it folded is =
+each_backup path to made it folded is counts file =
     let same : image_of memory_disk it.files ≡ image_of_bytes it.copy.bytes = λ i. record { log = it.copy.copied.log.same i; db = it.copy.copied.db.same i } in
-    subst (λ (image : Image). IsBackupOf image (memory_bytes folded.files.db) folded.counts) same (elim it.folds [
-      | inl (conn, opened, folds) ↦ backup_of it.files conn opened it.folded folds folded is
-      | inr (told, unopened, why) ↦ absurd (let e = why in cc)
+    subst (λ (image : Image). IsBackupOf image (memory_bytes file.files.db) counts) same (elim it.folds [
+      | inl (conn, opened, folds) ↦ backup_of it.files conn opened to folded counts file (subst (λ done. Folds conn done) is folds)
+      | inr (told, unopened, why) ↦ absurd (let e = why in let f = is in cc)
     ])

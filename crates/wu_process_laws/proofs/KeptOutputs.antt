@@ -1,20 +1,15 @@
 -- From what was kept of a copy to the outputs of the files.
-use Rattle.std.proofs.Common.{◌≡◌, ◌∙◌, ℕ, List, Result, Ok, Err, inl, inr, refl, sym, ap, subst}
+use Rattle.std.proofs.Common.{◌≡◌, ℕ, List, Result, Ok, Err, inl, inr, sym, ap, subst}
 use Rattle.std.specs.Prelude.{MatchResult, length}
 use Rattle.sqlite_disk.specs.declared.Files.{Files}
 use Rattle.sqlite_disk.specs.declared.memory.Memory.{Memory}
-use Rattle.sqlite_trees.specs.Tree.{Trees}
 use Rattle.sqlite_wal.specs.Recovery.{Image}
 use Rattle.sqlite_store.specs.declared.store.FileStore.{FileStore}
-use Rattle.sqlite.specs.Effect.{Database, IsDatabase}
+use Rattle.sqlite.specs.Effect.{Database}
 use Rattle.sqlite.specs.Files.{file_state, image_of, over_files}
 use Rattle.sqlite.specs.Held.{Held}
-use Rattle.wu_core.specs.World.{World}
-use Rattle.wu_lives.specs.Runs.{HoldsWorld}
-use Rattle.wu_passes.specs.Committing.{FoundAs}
 use Rattle.wu_schema.specs.Refines.{Refines}
-use Rattle.wu_stops.proofs.StoppingLemmas.{stands_still}
-use Rattle.wu_store.specs.StandsFor.{KnowsClasses, StandsFor}
+use Rattle.wu_store.specs.StandsFor.{KnowsClasses}
 use Rattle.wu_views.specs.Lines.{archived_lines}
 use Rattle.wu_arguments.specs.declared.order.OutputFiles.{OutputFiles}
 use Rattle.wu_cli.specs.Backups.{CountsSound}
@@ -27,23 +22,12 @@ use Rattle.wu_process.specs.Copies.{memory_disk}
 use Rattle.wu_process.specs.Outputs.{KeepsOpened}
 use Rattle.wu_process_laws.specs.Checked.{image_of_bytes}
 use Rattle.wu_process_laws.specs.KeptOutputs.{AreItsOutputs, EachOutputHasItsFile}
-use Rattle.wu_process_laws.proofs.BackedUp.{kept, sound}
+use Rattle.wu_process_laws.proofs.BackedUp.{found_stands, kept, sound}
 use Rattle.wu_process_laws.proofs.Checked.{memory_clean}
 
 module _ (keeps : List ℕ → List ℕ → Type 0) (asked : OutputFiles) (counts : KeptCounts) (files : Files Memory) where
   abbrev image : Image
   image = image_of memory_disk files
-
-  -- the database of a world that the files hold is that of the world
-  found_stands : (conn : Held (FileStore Memory memory_disk)) → IsOpenedIn files conn → (world : World) → HoldsWorld image world → StandsFor (file_state conn).now world
-  found_stands conn opened world held =
-      let db = (file_state conn).now in
-      let opens = opened.opens (memory_clean conn) in
-      let finds = opened.finds (memory_clean conn) in
-      let same : db ≡ (file_state conn).committed = opens.0.clean in
-      let right : IsDatabase db = (opens.1 opens.0.is_open).0 in
-      let at : FoundAs (file_state conn).committed.trees world = subst (λ (ts : Trees). FoundAs ts world) (sym (finds.holds held.trees held.holds)) held.found in
-      stands_still at.database db world at.stands right (ap (λ (d : Database). d.trees) same ∙ sym at.same)
 
   module _ (conn mid again : Held (FileStore Memory memory_disk)) (opened : IsOpenedIn files conn) where
     its_outputs : (its : Result Counts Trouble) → CountsSound over_files conn mid its
@@ -57,7 +41,7 @@ module _ (keeps : List ℕ → List ℕ → Type 0) (asked : OutputFiles) (count
             | inl is ↦ ap (λ (h : Held (FileStore Memory memory_disk)). (file_state h).now) is
             | inr unchanged ↦ unchanged.0.now_is
           ] in
-          let refines : Refines (file_state mid).now world = subst (λ (d : Database). Refines d world) (sym same) (found_stands conn opened world held).refines in
+          let refines : Refines (file_state mid).now world = subst (λ (d : Database). Refines d world) (sym same) (found_stands files conn opened world held).refines in
           ends.archive (memory_clean again) world known refines;
     }
     its_outputs (Err told) checks ends = absurd (cc ends)

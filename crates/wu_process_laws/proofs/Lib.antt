@@ -2,3 +2,4 @@ mod BackedUp
 mod Checked
 mod KeptOutputs
 mod Leaving
+mod RefilledLemmas

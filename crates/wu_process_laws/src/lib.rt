@@ -82,11 +82,12 @@ pub fn a_check_is_true<O: Write>()
     ensures { EachCheckIsTrue O.contents }
 {}
 
-/// Shows that the new file of a backup holds, without a log, what the files held that it was made of: a sound project
+/// Shows that the new file of a backup holds, without a log, the world of the files that it was made of: a sound project
 /// with the reported numbers. So it is also of a backup that a session makes.
 pub fn a_backup_holds_the_project()
-    // All tables are those of the files that were read, and so is the world. It is a sound project
-    // of a known version, with the reported numbers, where no row is shorter than its table.
+    // The new file holds each world that the files held which were read. It holds all of their
+    // tables, or they held nothing but a project's. They held a sound project of a known version,
+    // with the reported numbers, where no row is shorter than its table.
     ensures { EachBackupHolds }
 {}
 

@@ -25,17 +25,17 @@ equals_sign = 61
 abbrev pub NoLineBeginsWith : ℕ → List ℕ → Type 0
 NoLineBeginsWith byte text = All (λ line. slice_get line 0 ≢ Some byte) (lines text)
 
--- The names in the view of the world are valid.
+-- The names in the view of the world are valid; other views have none.
 abbrev pub HasValidNames : World → View → Type 0
 HasValidNames world view.Workunits = All (λ (line : WorkunitLine). IsName line.name) (workunit_lines world)
 HasValidNames world view.Results = All (λ (line : ResultLine). IsName line.workunit × IsHost line.host) (result_lines world)
 HasValidNames world view.Hosts = All (λ (line : HostLine). IsName line.name) (host_lines world)
 HasValidNames world view.Archive = All (λ (row : Archived). IsName row.name) (archived_lines world)
-HasValidNames world view.Summary = ⊤
 HasValidNames world view.Classes = All (λ (it : HostClass). IsName it.host) (class_lines world)
 HasValidNames world view.Imports = All (λ (line : ImportLine). IsName line.name) (import_lines world)
 HasValidNames world (view.Import name) = All (λ (line : ImportLine). IsName line.name) (import_lines_named name world)
 HasValidNames world (view.Status now) = All (λ (it : HostFailures). IsName it.host) (worst_hosts world)
+HasValidNames world _ = ⊤
 
 -- If the names in a view are valid, no line of its text begins with '='.
 abbrev pub NoViewLineIsMarked : Type 0

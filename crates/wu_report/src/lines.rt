@@ -242,9 +242,12 @@ pub fn pass_word(pass: Pass) -> &'static str
 }
 
 /// Writes a word and a number, as a line.
-fn write_counted<W: Write>(out: &mut W, word: &str, number: u64) -> Result<(), Fault>
+pub fn write_counted<W: Write>(out: &mut W, word: &str, number: u64) -> Result<(), Fault>
+    // With Ok exactly the line is written, and else a prefix of it.
     ensures bytes { WritesTo W.contents out.old out.new (counted word.now number) result }
+    // What is reported as failed was cut: a line that went out whole never is.
     ensures cut { CutsWhatFails W.contents out.old out.new (counted word.now number) result }
+    // The only fault is `Output`.
     ensures fault { IsOkUnless result Output }
 {
     write_pieces(

@@ -21,6 +21,7 @@ use Rattle.wu_report.proofs.MarkedLines.{names_valid, view_whole}
 use Rattle.wu_machine.specs.declared.view.View.{View}
 use Rattle.wu_machine.specs.declared.view.View.TheVariants as view
 use Rattle.wu_views.specs.Lines.{AreImportsStorable}
+use Rattle.wu_views.specs.Summaries.{IsCountable}
 use Rattle.wu_drive.specs.Driving.{session_of, world_after}
 use Rattle.wu_drive.specs.declared.runs.Run.{Run}
 use Rattle.wu_sound_laws.proofs.NamedHosts.{hosts_have}
@@ -39,6 +40,13 @@ placed world sound i d low =
 imports_storable : (world : World) → IsSound world → AreImportsStorable world
 imports_storable world sound i d low = let it = sound.imports i d low in record { name = it.0; verdicts = it.1 }
 
+countable : (world : World) → IsSound world → world.version ≡ present_version → IsCountable world
+countable world sound present = record {
+  numbers = record { version = omega (arith, present); next = sound.next_number };
+  credit = (let few = bounded_credit world.grants (placed world sound) sound.granted_once in omega (arith, few));
+}
+
+-- what has no rows of its own is counted
 pub shown : (world : World) → IsSound world → world.version ≡ present_version → (v : View) → CanBeShown world v
 shown world sound present view.Workunits = sound.storable
 shown world sound present view.Results = sound.storable
@@ -48,12 +56,9 @@ shown world sound present view.Classes = sound.classed
 shown world sound present view.Imports = imports_storable world sound
 shown world sound present (view.Import name) = imports_storable world sound
 shown world sound present (view.Status now) = sound.storable
-shown world sound present view.Summary = record {
-  numbers = record { version = omega (arith, present); next = sound.next_number };
-  credit = (let few = bounded_credit world.grants (placed world sound) sound.granted_once in omega (arith, few));
-}
+shown world sound present _ = countable world sound present
 
--- no version is asked for: a summary has no names
+-- no version is asked for: what is counted has no names
 names_sound : (world : World) → IsSound world → (v : View) → HasValidNames world v
 names_sound world sound view.Workunits = names_valid world view.Workunits sound.storable
 names_sound world sound view.Results = names_valid world view.Results sound.storable
@@ -61,9 +66,9 @@ names_sound world sound view.Hosts = names_valid world view.Hosts (hosts_have Is
 names_sound world sound view.Archive = names_valid world view.Archive sound.archivable
 names_sound world sound view.Classes = names_valid world view.Classes sound.classed
 names_sound world sound view.Imports = names_valid world view.Imports (imports_storable world sound)
-names_sound world sound view.Summary = tt
 names_sound world sound (view.Import name) = names_valid world (view.Import name) (imports_storable world sound)
 names_sound world sound (view.Status now) = names_valid world (view.Status now) sound.storable
+names_sound world sound _ = tt
 
 pub unmarked : (world : World) → IsSound world → (v : View) → NoLineBeginsWith equals_sign (view_text world v)
 unmarked world sound v = unmarked_whole (view_text world v) (view_whole world v (names_sound world sound v))

@@ -3,4 +3,5 @@ mod TermLemmas
 mod FoundLemmas
 mod AgainstLemmas
 mod OrderLemmas
+mod OthersLemmas
 pub mod UpgradeLemmas

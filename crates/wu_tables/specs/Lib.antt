@@ -1,4 +1,5 @@
 pub mod Forms
 pub mod Found
 pub mod Known
+pub mod Others
 pub mod Upgrades

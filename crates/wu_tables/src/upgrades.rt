@@ -1,6 +1,7 @@
-//! The names that an upgrade gives, and which of them something has already.
+//! The names that an upgrade or a new project gives, and which of them something has already.
 
 ghost use Rattle.std.specs.Prelude.{◌≡◌, ◌↔◌, IfNone, IfSome, IsTrue, MatchOption, map};
+ghost use Rattle.wu_schema.specs.Fresh.{project_names};
 ghost use Rattle.wu_schema.specs.Made.{AreFree};
 ghost use Rattle.wu_schema.specs.Refines.{IsFree};
 ghost use Rattle.wu_tables.specs.Upgrades.{upgrade_names, HasFreeNames, IsFirstTaken, TakesUpgradeName};
@@ -8,8 +9,19 @@ ghost use Rattle.wu_tables.specs.Upgrades.{upgrade_names, HasFreeNames, IsFirstT
 use sqlite_schema::schema::Schema;
 use wu_core::{CLASS_VERSION, QUEUE_VERSION};
 
+/// The names of the tables that each version has.
+pub const OF_FIRST: [&str; 7] = [
+    "project",
+    "workunit",
+    "result",
+    "credit_grant",
+    "host",
+    "archived",
+    "import",
+];
+
 /// The names of what version 1 lacks: the queue and its indexes, and then the tables of classes.
-const AFTER_FIRST: [&str; 8] = [
+pub const AFTER_FIRST: [&str; 8] = [
     "queue",
     "queue_validate",
     "queue_assimilate",
@@ -68,4 +80,22 @@ pub fn taken_name(schema: &Schema, version: u64) -> Option<&'static str>
     ensures taken { IfSome result (λ name. TakesUpgradeName schema.now version name.now) }
 {
     first_taken(schema, upgrade_names(version))
+}
+
+/// Returns the first name that a new project gives and that something has, or `None` if nothing has such a name. With a
+/// name no project is made, since what has to have it cannot be made.
+pub fn taken_from_new(schema: &Schema) -> Option<&'static str>
+    // `None` means that nothing has a name that a new project gives.
+    ensures free { IfNone result (AreFree schema.now project_names) }
+    // A name is one that a new project gives and that a table, an index or a view has. Each of its
+    // names before that one is free.
+    ensures taken { IfSome result (λ name. IsFirstTaken schema.now project_names name.now) }
+{
+    if let Some(name) = first_taken(schema, &OF_FIRST) {
+        return Some(name);
+    }
+    if let Some(name) = first_taken(schema, &AFTER_FIRST[AFTER_QUEUE..]) {
+        return Some(name);
+    }
+    first_taken(schema, &AFTER_FIRST[..AFTER_QUEUE])
 }

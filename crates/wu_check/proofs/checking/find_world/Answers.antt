@@ -3,14 +3,16 @@ use Rattle.wu_schema.specs.Tables.{HasTables}
 use Rattle.wu_check.specs.Findings.{IsBasis, IsBasisLater}
 use Rattle.wu_check.specs.Versions.{IsReadVersion}
 use Rattle.wu_check.specs.declared.checking.Basis.TheVariants as basis
-use Rattle.wu_check.proofs.ExamineLemmas.{examines_fault, examines_made, examines_then, examines_version, lacks}
+use Rattle.wu_check.proofs.ExamineLemmas.{examines_fault, examines_made, examines_then, examines_version, lacks, told_of_tables}
 use Rattle.wu_check.proofs.LaterLemmas.{later_then}
 use Rattle.wu_check.proofs.checking.find_world.Goals as goal
 
 pub returns-in-Err-clause-examines : goal.returns-in-Err-clause-examines
 returns-in-Err-clause-examines g c =
     examines_made g.S.Store c.args.conn.now c.unless_later.new.conn _ c.in_ok-finding.finding (basis.Unsound c.in_ok-finding.finding) IsBasis
-    (λ then. then (lacks 1 (state g.S.Store c.args.conn.now).now c.schema.result.now c.schema.ensures.value c.in-Err.misfit (inl refl) c.in-Err.ensures.told c.in-Err.ensures.missing (λ world stands known. absurd (omega (arith, known)))))
+    (λ then. then (told_of_tables (state g.S.Store c.args.conn.now).now c.schema-in-Err.result.now c.schema-in-Err.ensures.value c.in-Err.misfit
+    (lacks 1 (state g.S.Store c.args.conn.now).now c.schema.result.now c.schema.ensures.value c.in-Err.misfit (inl refl) c.in-Err.ensures.told c.in-Err.ensures.missing (λ world stands known. absurd (omega (arith, known))))
+    c.finding_of_tables-found.result c.finding_of_tables-found.ensures))
     c.in_ok-finding.ensures.examines
 
 pub returns-in_err-version-clause-examines : goal.returns-in_err-version-clause-examines

@@ -3,7 +3,7 @@ use Rattle.wu_schema.specs.Tables.{HasTables, IsClassedVersion}
 use Rattle.wu_check.specs.Findings.{IsBasisOf, TellsLater}
 use Rattle.wu_check.specs.declared.checking.Basis.TheVariants as basis
 use Rattle.wu_check.specs.declared.finding.Finding.{Finding}
-use Rattle.wu_check.proofs.ExamineLemmas.{FindsOf, TellsOfVersion, lacks, examines_fault, examines_later, examines_made, examines_row, examines_world, serves_then}
+use Rattle.wu_check.proofs.ExamineLemmas.{FindsOf, TellsOfVersion, lacks, examines_fault, examines_later, examines_made, examines_row, examines_world, first_there, serves_then}
 use Rattle.wu_schema.proofs.AskingLemmas.{asks_then}
 use Rattle.wu_store.proofs.AskLemmas.{opens_handed}
 use Rattle.wu_check.proofs.LaterLemmas.{later_then}
@@ -12,7 +12,8 @@ use Rattle.wu_check.proofs.checking.find_world_of.Goals as goal
 pub returns-in-Err-clause-examines : goal.returns-in-Err-clause-examines
 returns-in-Err-clause-examines g c =
     examines_made g.S.Store c.args.conn.now c.unless_later.new.conn _ c.in_ok-finding.finding (basis.Unsound c.in_ok-finding.finding) (IsBasisOf c.args.version)
-    (λ then told. then (lacks c.args.version (state g.S.Store c.args.conn.now).now c.schema.result.now c.schema.ensures.value c.in-Err.misfit (inr told) c.in-Err.ensures.told c.in-Err.ensures.missing (λ world stands known. subst IsClassedVersion (sym (told.read.stands world stands)) known)))
+    (λ then told. then (first_there c.args.version (state g.S.Store c.args.conn.now).now c.in-Err.misfit told
+    (lacks c.args.version (state g.S.Store c.args.conn.now).now c.schema.result.now c.schema.ensures.value c.in-Err.misfit (inr told) c.in-Err.ensures.told c.in-Err.ensures.missing (λ world stands known. subst IsClassedVersion (sym (told.read.stands world stands)) known))))
     c.in_ok-finding.ensures.examines
 
 pub returns-in_err-loaded-clause-examines : goal.returns-in_err-loaded-clause-examines

@@ -15,7 +15,7 @@ returns-in_err-folded g c =
       files = c.in-Ok.files;
       copy = c.in-Ok.ensures;
       folded = c.fold.result;
-      folds = c.fold.ensures;
+      folds = c.fold.ensures.folds;
       ends = subst (λ (r : Result (Folded Memory) Trouble). EndsBackup (g.F.MakeFile.makes c.args.new_files.now) c.args.to.now r made) (sym is) told;
     })
 
@@ -26,6 +26,6 @@ returns g c =
       files = c.in-Ok.files;
       copy = c.in-Ok.ensures;
       folded = c.fold.result;
-      folds = c.fold.ensures;
-      ends = subst (λ (r : Result (Folded Memory) Trouble). EndsBackup (g.F.MakeFile.makes c.args.new_files.now) c.args.to.now r c.make_file.result) (sym is) c.make_file.ensures;
+      folds = c.fold.ensures.folds;
+      ends = subst (λ (r : Result (Folded Memory) Trouble). EndsBackup (g.F.MakeFile.makes c.args.new_files.now) c.args.to.now r c.make_folded.result) (sym is) c.make_folded.ensures;
     })

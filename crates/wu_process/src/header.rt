@@ -1,0 +1,80 @@
+//! What the header of a database says, before it is opened. It stands in the first bytes of the first page.
+
+use wu_cli::Reason;
+
+/// Where the header has the number of pages, and the number of those that are free.
+const PAGES: usize = 28;
+
+const FREE_PAGES: usize = 36;
+
+/// Where the header has the largest root page, which is 0 unless the file shrinks by itself.
+const LARGEST_ROOT: usize = 52;
+
+/// Where the header has the encoding of texts, and the number of UTF-8. Before the first table is made it is 0.
+const ENCODING: usize = 56;
+
+const UTF_8: u32 = 1;
+
+/// The bytes of a log before its first frame, and where they have the size of a page and the two numbers of each frame
+/// that belongs to the log.
+const LOG_HEADER: usize = 32;
+
+const LOG_PAGE_SIZE: usize = 8;
+
+const LOG_SALT: [usize; 2] = [16, 20];
+
+/// The bytes of a frame before its page. They begin with the page's number. The other numbers are those of its log.
+const FRAME_HEADER: usize = 24;
+
+const FRAME_SALT: [usize; 2] = [8, 12];
+
+/// Returns the number in the four bytes at this place, of which the first is the highest.
+fn number_at(bytes: &[u8], at: usize) -> Option<u32> {
+    match bytes.get(at..at.saturating_add(4)) {
+        Some([a, b, c, d]) => Some(u32::from_be_bytes([*a, *b, *c, *d])),
+        _ => None,
+    }
+}
+
+/// Returns whether the frame belongs to the log: a log that is begun anew may end with frames of the one before.
+fn is_frame_of(log: &[u8], frame: &[u8]) -> bool {
+    number_at(frame, FRAME_SALT[0]) == number_at(log, LOG_SALT[0])
+        && number_at(frame, FRAME_SALT[1]) == number_at(log, LOG_SALT[1])
+}
+
+/// Returns the first page of a database, as its log has it last, or else as its file has it.
+fn first_page<'a>(log: &'a [u8], db: &'a [u8]) -> &'a [u8] {
+    let mut page = db;
+    let (Some(size), Some(frames)) = (number_at(log, LOG_PAGE_SIZE), log.get(LOG_HEADER..)) else {
+        return page;
+    };
+    for frame in frames.chunks((size as usize).saturating_add(FRAME_HEADER)) {
+        match frame.get(FRAME_HEADER..) {
+            Some(_) if !is_frame_of(log, frame) => return page,
+            Some(first) if number_at(frame, 0) == Some(1) => page = first,
+            _ => {}
+        }
+    }
+    page
+}
+
+/// Refuses a database of a kind that the store does not read: with auto-vacuum, or with texts in UTF-16. One that has no
+/// header yet is not refused.
+pub fn refuse_other_kind(log: &[u8], db: &[u8]) -> Result<(), Reason> {
+    let page = first_page(log, db);
+    let has_vacuum = number_at(page, LARGEST_ROOT).is_some_and(|root| root > 0);
+    let has_utf16 = number_at(page, ENCODING).is_some_and(|encoding| encoding > UTF_8);
+    if has_vacuum || has_utf16 {
+        return Err(Reason::OtherKind);
+    }
+    Ok(())
+}
+
+/// Returns whether at least a quarter of the pages of a database are free, as its file says. What its log has is not
+/// looked at.
+pub fn has_many_free_pages(db: &[u8]) -> bool {
+    match (number_at(db, FREE_PAGES), number_at(db, PAGES)) {
+        (Some(free), Some(pages)) => free > 0 && free >= pages / 4,
+        _ => false,
+    }
+}

@@ -1,0 +1,4 @@
+mod AddingLemmas
+mod FilledLemmas
+mod FoundLemmas
+pub mod RefillLemmas

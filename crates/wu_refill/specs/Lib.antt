@@ -1,0 +1,4 @@
+pub mod Laws
+pub mod Loading
+pub mod Making
+pub mod Refilling
