@@ -26,7 +26,7 @@ pub enum Key {
 /// What keeps a database from holding a sound project, or the sound project that it holds from an upgrade.
 #[derive(Drop)]
 pub enum Finding {
-    /// A table is missing or altered. If that is the table `project`, nothing has a name that a new project gives.
+    /// A table is missing or altered. If the table `project` is missing, nothing has a name that a new project gives.
     Tables(Misfit),
     /// There is no table `project`, and something has this name, which a new project gives. So no project can be made.
     Barred(&'static str),

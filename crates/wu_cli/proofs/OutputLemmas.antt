@@ -1,5 +1,5 @@
 -- Rows that are taken one after another have their files.
-use Rattle.std.proofs.Common.{◌≡◌, ◌∙◌, ◌+◌, ◌++◌, ◌∷◌, ℕ, suc, arith, Bool, true, false, List, [], All, filter, length, Option, Some, None, Result, Ok, Err, ap, inl, inr, refl, subst, sym}
+use Rattle.std.proofs.Common.{◌≡◌, ◌∙◌, ◌+◌, ◌∷◌, ℕ, suc, arith, Bool, true, false, List, [], All, length, None, Result, Ok, Err, ap, inl, inr, refl, subst, sym}
 use Rattle.std.proofs.lemmas.List.Elements.{All-cons, All-nil}
 use Rattle.wu_core.specs.declared.fault.Fault.{Fault}
 use Rattle.wu_core.specs.declared.workunit.Archived.{Archived}
@@ -11,10 +11,8 @@ use Rattle.wu_views.specs.Walking.{HandsOver, TakesAll, TakesFront, Walked}
 use Rattle.wu_arguments.specs.declared.order.OutputFiles.{OutputFiles}
 use Rattle.wu_cli.specs.Outputs.{HaveFiles, HaveFront, IsCause, is_wanted, KeepsOutputs, KeepsRow, KeepsRowIf, KeepsRows, LosesRow, output_path, total, trouble_of_walk, wanted_of}
 use Rattle.wu_cli.specs.declared.outputs.KeptCounts.{KeptCounts}
-use Rattle.wu_cli.specs.declared.outputs.LostOutput.{LostOutput}
 use Rattle.wu_cli.specs.declared.outputs.OutputKeeper.{OutputKeeper}
 use Rattle.wu_cli.specs.declared.trouble.Trouble.{Trouble}
-use Rattle.wu_cli.specs.declared.trouble.Trouble.TheVariants as trouble
 
 module _ {F : Type 0} (keeps : F → List ℕ → List ℕ → Type 0) where
   -- These rows were taken, by a keeper that then has the same task.

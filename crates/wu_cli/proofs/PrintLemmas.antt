@@ -27,20 +27,19 @@ use Rattle.wu_drive.specs.declared.runs.Run.{Run}
 use Rattle.wu_drive.specs.Writing.{answer_text, answers_text}
 use Rattle.wu_arguments.specs.declared.action.Action.{Action}
 use Rattle.wu_arguments.specs.declared.action.Action.TheVariants.{Commands, Look}
-use Rattle.wu_passes.specs.Adopting.{older_than_present}
 use Rattle.wu_arguments.specs.declared.script.Mode.{Mode}
 use Rattle.wu_arguments.specs.declared.script.Mode.TheVariants.{Once, Repeated, Tried}
 use Rattle.wu_arguments.specs.declared.step.LineFault.{LineFault}
 use Rattle.wu_arguments.specs.declared.step.Step.{Step}
 use Rattle.wu_cli.specs.Performing.{as_result, Performs}
-use Rattle.wu_cli.specs.Printing.{printed_accepted, printed_action, printed_by, printed_replies, printed_reply, printed_steps, PrintsAction, PrintsSteps, shown_text}
+use Rattle.wu_cli.specs.Printing.{printed_accepted, printed_by, printed_replies, printed_reply, printed_steps, PrintsAction, PrintsSteps, shown_text}
 use Rattle.wu_cli.specs.Repeating.{commands_of_step, commands_of_steps, unrolled, world_behind}
 use Rattle.wu_cli.specs.Scripting.{PerformsEach, PerformsScript, PerformsSteps}
 use Rattle.wu_cli.specs.Trying.{accepted, EndsTried, is_refusal, PassesOver, PerformsBy, refusal_line, refusal_of}
 use Rattle.wu_cli.specs.Working.{line_outcome, script_outcome}
 use Rattle.wu_cli.proofs.ActionLemmas.{shown_present, world_both, world_of}
 use Rattle.wu_cli.proofs.ScriptLemmas.{each_clean, each_done, each_goes}
-use Rattle.wu_cli.proofs.TryLemmas.{accepted_front, all_accepted, by_clean, by_done, by_goes, no_end, not_output, refused_as, refused_at, view_refused}
+use Rattle.wu_cli.proofs.TryLemmas.{accepted_front, all_accepted, by_clean, by_done, by_goes, not_output, refused_as, refused_at, view_refused}
 
 -- ---- texts of answers
 

@@ -1,5 +1,5 @@
 -- How many commands of a script were done, and what it put out of them.
-use Rattle.std.proofs.Common.{◌≡◌, ◌∙◌, inl, inr, ℕ, ◌+◌, Bool, false, List, [], ◌∷◌, ◌++◌, length, Option, Some, None, refl, sym, ap, subst, arith}
+use Rattle.std.proofs.Common.{◌∙◌, inl, inr, ℕ, ◌+◌, Bool, false, List, [], ◌∷◌, ◌++◌, length, Option, Some, None, refl, sym, ap, subst, arith}
 use Rattle.sqlite.specs.State.{HasCleanDisk}
 use Rattle.sqlite_trees.specs.declared.store.Store.{Ghosts}
 use Rattle.wu_core.specs.World.{World}
@@ -23,7 +23,7 @@ use Rattle.wu_arguments.specs.declared.step.Step.{Step}
 use Rattle.wu_cli.specs.Performing.{Performs}
 use Rattle.wu_cli.specs.Repeating.{commands_by, commands_of_action, commands_of_steps, unrolled, world_behind}
 use Rattle.wu_cli.specs.Scripting.{PerformsScript, PerformsSteps, so_far}
-use Rattle.wu_cli.specs.Telling.{CutsRefusal, DrivesCommands, DrivesSteps, LengthensBySteps, TellsAction, TellsBy}
+use Rattle.wu_cli.specs.Telling.{DrivesCommands, DrivesSteps, LengthensBySteps, TellsAction, TellsBy}
 use Rattle.wu_cli.specs.Trying.{EndsTried, PerformsBy, refusal_line}
 use Rattle.wu_cli.proofs.PrintLemmas.{each_prints, one_prints, refused_prints}
 use Rattle.wu_cli.proofs.ActionLemmas.{all_drives, drives_within, so_far_drives, world_of}

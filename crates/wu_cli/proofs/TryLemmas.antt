@@ -1,12 +1,12 @@
 -- Tried actions: what the machine accepts of them, and what a refusal leaves.
-use Rattle.std.proofs.Common.{◌≡◌, ◌∙◌, ◌⊎◌, inl, inr, ℕ, zero, suc, ◌≤◌, Bool, true, false, IfSome, List, [], ◌∷◌, length, take, Option, Some, None, Result, Ok, Err, refl, sym, ap, subst, arith}
+use Rattle.std.proofs.Common.{◌≡◌, ◌∙◌, inl, inr, ℕ, zero, suc, ◌≤◌, Bool, true, false, IfSome, List, [], ◌∷◌, length, take, Option, Some, None, Result, Ok, Err, refl, sym, ap, subst, arith}
 use Rattle.std.proofs.lemmas.Bool.{cases_Bool}
 use Rattle.std.specs.Prelude.{option_map, slice_get}
 use Rattle.sqlite.specs.State.{State, HasCleanDisk}
 use Rattle.sqlite_trees.specs.declared.store.Store.{Ghosts}
 use Rattle.wu_core.specs.World.{World}
 use Rattle.wu_core.specs.declared.fault.Fault.{Fault}
-use Rattle.wu_core.specs.declared.fault.Fault.TheVariants.{Broken, Memory, NotAProject, OldSchema, Output}
+use Rattle.wu_core.specs.declared.fault.Fault.TheVariants.{Broken, OldSchema, Output}
 use Rattle.wu_schema.specs.Faults.{IsStoreFault}
 use Rattle.wu_drive.specs.Counting.{handled_by}
 use Rattle.wu_drive.specs.Driving.{AnswerAll, Drives, world_after}

@@ -65,7 +65,7 @@ misfit_line misfit.HostNames = codes "table host has an index that does not comp
 
 -- The line of a name that something has and that a new project gives, where there is no table `project`.
 abbrev pub barred_line : List ℕ → List ℕ
-barred_line name = codes "table project is missing, and something has the name " ++ (name ++ (codes ": no project can be made" ++ line_end))
+barred_line name = codes "there is no table project to read, and something has the name " ++ (name ++ (codes ": no project can be made" ++ line_end))
 
 -- The line of a host with the total and the number of grants that its row keeps, and those that its grants have.
 abbrev pub sums_line : OtherSums → List ℕ

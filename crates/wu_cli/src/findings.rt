@@ -112,7 +112,7 @@ fn line_of_barred<W: Write>(out: &mut W, name: &str) -> Result<(), Fault>
     write_flushed(
         out,
         &[
-            Piece::Text("table project is missing, and something has the name "),
+            Piece::Text("there is no table project to read, and something has the name "),
             Piece::Text(name),
             Piece::Text(": no project can be made"),
             Piece::Text("\n"),

@@ -169,10 +169,11 @@ The order is: tables, their rows, rows that do not agree, the queue, and last th
 names that an upgrade gives. If something has such a name, the project is sound,
 and only its upgrade is refused: set back a version that was lowered by hand, or
 rename what has the name. If there is no table project, and something has a name that
-a new project gives, no command can make one: rename that, or take another file.
+a new project gives, no command can make one: rename that, or take another file. If
+the name is project, it is a view, or a table with somebody's trigger: drop that.
 A table that has somebody's trigger is told as missing, or its file as no database
-that this program reads. So is a file with a row that refers to none. sqlite3 finds
-both by
+that this program reads. So is a file with a row that refers to none, or with a
+virtual table. sqlite3 finds the first two by
   SELECT name, tbl_name FROM sqlite_schema WHERE type = 'trigger'
   PRAGMA foreign_key_check
 ",

@@ -239,7 +239,7 @@ pub fn make_backup<F: MakeFile>(
         Ok(files) => files,
         Err(reason) => return Err(Trouble::Unchecked(reason)),
     };
-    let wants_world = has_many_free_pages(files.db.bytes());
+    let wants_world = has_many_free_pages(files.log.bytes(), files.db.bytes());
     let folded = fold(rt.alloc(), files, options(rt), wants_world)?;
     make_folded(rt.alloc(), new_files, to, &folded, options(rt))
 }

@@ -70,10 +70,10 @@ pub fn refuse_other_kind(log: &[u8], db: &[u8]) -> Result<(), Reason> {
     Ok(())
 }
 
-/// Returns whether at least a quarter of the pages of a database are free, as its file says. What its log has is not
-/// looked at.
-pub fn has_many_free_pages(db: &[u8]) -> bool {
-    match (number_at(db, FREE_PAGES), number_at(db, PAGES)) {
+/// Returns whether at least a quarter of the pages of a database are free, as its first page says.
+pub fn has_many_free_pages(log: &[u8], db: &[u8]) -> bool {
+    let page = first_page(log, db);
+    match (number_at(page, FREE_PAGES), number_at(page, PAGES)) {
         (Some(free), Some(pages)) => free > 0 && free >= pages / 4,
         _ => false,
     }

@@ -1,6 +1,4 @@
-use Rattle.std.proofs.Common.{◌≡◌, Err, Ok, Result, refl, rules, subst, sym, ap}
-use Rattle.wu_core.specs.declared.fault.Fault.{Fault}
-use Rattle.wu_views.specs.Lines.{archived_lines}
+use Rattle.std.proofs.Common.{◌≡◌, Err, Ok, Result, refl, rules, subst, ap}
 use Rattle.wu_cli.specs.Outputs.{KeepsOutputs}
 use Rattle.wu_cli.specs.declared.outputs.KeptCounts.{KeptCounts}
 use Rattle.wu_cli.specs.declared.trouble.Trouble.{Trouble}

@@ -1,4 +1,4 @@
-use Rattle.std.proofs.Common.{◌≡◌, ◌∙◌, subst, sym}
+use Rattle.std.proofs.Common.{◌∙◌, subst, sym}
 use Rattle.wu_cli.specs.Performing.{Performs}
 use Rattle.wu_cli.proofs.TryLemmas.{refused_full}
 use Rattle.wu_cli.proofs.repeating.attempt.Goals as goal

@@ -7,7 +7,6 @@ use Rattle.wu_cli.specs.declared.trouble.Trouble.{Trouble}
 use Rattle.wu_cli.specs.declared.trouble.Trouble.TheVariants as trouble
 use Rattle.wu_cli.proofs.TroubleLemmas.{handed_on}
 use Rattle.wu_process.specs.Backups.{LoadsWorld}
-use Rattle.wu_process.specs.declared.backup.Checked.{Checked}
 use Rattle.wu_process.proofs.backup.check_sound.Goals as goal
 
 pub returns-in_err-counts-clause-checks : goal.returns-in_err-counts-clause-checks
