@@ -7,3 +7,4 @@ mod ParseLemmas
 mod ReadLemmas
 mod TableLemmas
 mod StepLemmas
+mod ScriptLemmas

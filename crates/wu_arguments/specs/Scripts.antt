@@ -66,6 +66,7 @@ ReadsCommand words (Err (refusal.Words usage)) = Explains words usage
 ReadsCommand words (Err (refusal.Outsider outsider)) = (order : Order) × IsOrderOf words order × (outsider_of order ≡ Some outsider)
 ReadsCommand words (Err refusal.Repeat) = ⊥
 ReadsCommand words (Err refusal.Try) = ⊥
+ReadsCommand words (Err refusal.AfterExport) = ⊥
 ReadsCommand words (Err (refusal.Fault fault)) = fault ≡ Memory
 
 -- If the first word of a script's line says that it takes no database, the line is refused for that. Else its words
@@ -80,19 +81,6 @@ abbrev pub is_pass : Asking → Bool
 is_pass (asking.Pass pass now limit min_age) = true
 is_pass _ = false
 
--- The words after `repeat` read as a line that is a pass, or are refused. Any other line is refused as `Repeat`, and so
--- is an export.
-abbrev pub ReadsRepeated : List ℕ → List (List ℕ) → Result Line Refusal → Type 0
-ReadsRepeated db words (Ok line) = ReadsWords db words (Ok line) × (is_pass line.asking ≡ true)
-ReadsRepeated db words (Err why) =
-    ((line : Line) × ReadsWords db words (Ok line) × (is_pass line.asking ≡ false) × (why ≡ refusal.Repeat))
-    ⊎ ((other : Refusal) × ReadsWords db words (Err other) × (why ≡ repeated_refusal other))
-
--- The words after `try` read as a line, or are refused: an export as `Try`.
-abbrev pub ReadsTried : List ℕ → List (List ℕ) → Result Line Refusal → Type 0
-ReadsTried db words (Ok line) = ReadsWords db words (Ok line)
-ReadsTried db words (Err why) = (other : Refusal) × ReadsWords db words (Err other) × (why ≡ tried_refusal other)
-
 -- How a line is done that begins with this word.
 abbrev pub mode_of_word : List ℕ → Mode
 mode_of_word word =
@@ -102,6 +90,31 @@ mode_of_word word =
 -- How the line of these words is done.
 abbrev pub mode_of : List (List ℕ) → Mode
 mode_of words = option_map_or mode_of_word (slice_get words 0) Once
+
+-- Whether a word may begin what is repeated or tried: it is neither `repeat` nor `try`.
+abbrev pub begins_line : List ℕ → Bool
+begins_line word = if bytes_eq word (codes "repeat") then false else if bytes_eq word (codes "try") then false else true
+
+-- Whether these words may be what is repeated or tried: there is a first one, and that may begin it.
+abbrev pub may_be_line : List (List ℕ) → Bool
+may_be_line words = option_map_or begins_line (slice_get words 0) false
+
+-- The words after `repeat` read as a line that is a pass, or are refused. Any other line is refused as `Repeat`, and so
+-- are an export, no words, and words that repeat or try again.
+abbrev pub ReadsRepeated : List ℕ → List (List ℕ) → Result Line Refusal → Type 0
+ReadsRepeated db words (Ok line) = (may_be_line words ≡ true) × ReadsWords db words (Ok line) × (is_pass line.asking ≡ true)
+ReadsRepeated db words (Err why) =
+    ((may_be_line words ≡ false) × (why ≡ refusal.Repeat))
+    ⊎ (((line : Line) × (may_be_line words ≡ true) × ReadsWords db words (Ok line) × (is_pass line.asking ≡ false) × (why ≡ refusal.Repeat))
+    ⊎ ((other : Refusal) × (may_be_line words ≡ true) × ReadsWords db words (Err other) × (why ≡ repeated_refusal other)))
+
+-- The words after `try` read as a line, or are refused: an export as `Try`, and so no words, and words that repeat or
+-- try again.
+abbrev pub ReadsTried : List ℕ → List (List ℕ) → Result Line Refusal → Type 0
+ReadsTried db words (Ok line) = (may_be_line words ≡ true) × ReadsWords db words (Ok line)
+ReadsTried db words (Err why) =
+    ((may_be_line words ≡ false) × (why ≡ refusal.Try))
+    ⊎ ((other : Refusal) × (may_be_line words ≡ true) × ReadsWords db words (Err other) × (why ≡ tried_refusal other))
 
 abbrev pub ReadsWordsOf : List ℕ → List (List ℕ) → Mode → Result Line Refusal → Type 0
 ReadsWordsOf db words Once result = ReadsWords db words result

@@ -36,6 +36,7 @@ refusal_status (refusal.Words usage) = usage_status usage
 refusal_status (refusal.Outsider outsider) = 2
 refusal_status refusal.Repeat = 2
 refusal_status refusal.Try = 2
+refusal_status refusal.AfterExport = 2
 refusal_status (refusal.Fault fault) = fault_status fault
 
 abbrev pub status_of_line : Option LineFault → ℕ

@@ -1,15 +1,19 @@
 -- The steps of a script: what its lines ask of a project, with the contents of their files.
+use Rattle.std.specs.List.{AllZip}
 use Rattle.std.specs.Prelude.{◌≡◌, ◌⊎◌, ℕ, List, [], ◌∷◌, ◌++◌, Option, Result, Ok, Err, ⊤}
 use Rattle.wu_core.specs.declared.fault.Fault.{Fault}
 use Rattle.wu_core.specs.declared.fault.Fault.TheVariants.{Memory}
 use Rattle.wu_feed.specs.declared.script.ScriptLine.{ScriptLine}
 use Rattle.wu_arguments.specs.Contents.{Prepares}
-use Rattle.wu_arguments.specs.Scripts.{ReadsScriptLine}
+use Rattle.wu_arguments.specs.Scripts.{export_asked, ReadsScriptLine}
 use Rattle.wu_arguments.specs.declared.line.Line.{Line}
+use Rattle.wu_arguments.specs.declared.order.Export.{Export}
 use Rattle.wu_arguments.specs.declared.refusal.Refusal.{Refusal}
 use Rattle.wu_arguments.specs.declared.refusal.Refusal.TheVariants as refusal
+use Rattle.wu_arguments.specs.declared.refusal.Outsider.TheVariants as outsider
 use Rattle.wu_arguments.specs.declared.script.Mode.{Mode}
 use Rattle.wu_arguments.specs.declared.step.BadLine.{BadLine}
+use Rattle.wu_arguments.specs.declared.step.Script.{Script}
 use Rattle.wu_arguments.specs.declared.step.Step.{Step}
 
 -- The line of this number is out of memory.
@@ -55,3 +59,53 @@ module _ (gives : List ℕ → ℕ → Option (List ℕ) → Type 0) (db : List 
   abbrev pub GivesSteps : List ScriptLine → Result (List Step) BadLine → Type 0
   GivesSteps lines (Ok steps) = AreStepsOf lines steps
   GivesSteps lines (Err bad) = StopsAt lines bad
+
+-- ---- with the exports at its end
+
+-- What a line asks for is added to what the lines before it ask for: a step, if they ask for no export, or an export.
+-- Or it is out of memory, or refused: a step after an export, or what is neither.
+abbrev pub Takes : List Step → List Export → Result Step Refusal → List Step → List Export → Result (Unit {0}) Refusal → Type 0
+Takes steps exports (Ok step) more_steps more_exports (Ok done) = (exports ≡ []) × (more_steps ≡ steps ++ step ∷ []) × (more_exports ≡ exports)
+Takes steps exports (Ok step) more_steps more_exports (Err why) = (why ≡ refusal.Fault Memory) ⊎ ((why ≡ refusal.AfterExport) × (exports ≡ [] → ⊥))
+Takes steps exports (Err asked) more_steps more_exports (Ok done) =
+    (export : Export) × (export_asked asked ≡ Ok export) × (more_steps ≡ steps) × (more_exports ≡ exports ++ export ∷ [])
+Takes steps exports (Err asked) more_steps more_exports (Err why) =
+    ((why ≡ refusal.Fault Memory) × ((export : Export) × (export_asked asked ≡ Ok export))) ⊎ (export_asked asked ≡ Err why)
+
+module _ (gives : List ℕ → ℕ → Option (List ℕ) → Type 0) (db : List ℕ) where
+  -- The line asks for this export, and so for no command.
+  abbrev pub AsksExport : ScriptLine → Export → Type 0
+  AsksExport line export = IsRefusedFor gives db line (refusal.Outsider (outsider.Export export))
+
+  -- The lines ask for the steps, and the last of them for the exports, one each and in order.
+  pub record AskFor (lines : List ScriptLine) (steps : List Step) (exports : List Export) : Type 0 where
+    pub front : List ScriptLine
+    pub behind : List ScriptLine
+    pub order : lines ≡ front ++ behind
+    pub each_step : AreStepsOf gives db front steps
+    pub each_export : AllZip AsksExport behind exports
+
+  -- The line can be run and is out of memory; or it cannot be run for this reason, which is that it asks for no export
+  -- if a line before it does.
+  abbrev pub IsBadAfter : List Export → ScriptLine → Refusal → Type 0
+  IsBadAfter exports line why =
+      ((why ≡ refusal.Fault Memory) × (((step : Step) × GivesStep gives db line (Ok step)) ⊎ ((export : Export) × AsksExport line export)))
+      ⊎ ((IsRefusedFor gives db line why × (export_asked why ≡ Err why))
+      ⊎ ((why ≡ refusal.AfterExport) × (exports ≡ [] → ⊥) × ((step : Step) × GivesStep gives db line (Ok step))))
+
+  -- This line is refused, and each line before it can be run.
+  pub record EndsAt (lines : List ScriptLine) (bad : BadLine) : Type 0 where
+    pub front : List ScriptLine
+    pub line : ScriptLine
+    pub behind : List ScriptLine
+    pub order : lines ≡ front ++ line ∷ behind
+    pub steps : List Step
+    pub exports : List Export
+    pub before : AskFor front steps exports
+    pub number_is : bad.number ≡ line.number
+    pub is_bad : IsBadAfter exports line bad.why
+
+  -- What the lines ask for, or the first that cannot be run.
+  abbrev pub GivesScript : List ScriptLine → Result Script BadLine → Type 0
+  GivesScript lines (Ok script) = AskFor lines script.steps script.exports
+  GivesScript lines (Err bad) = EndsAt lines bad

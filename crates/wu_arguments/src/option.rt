@@ -203,13 +203,13 @@ impl LineOption {
                 name: "detail",
                 value: OptionValue::Word,
                 value_name: "DETAIL",
-                help: "Of a fault, what is printed after its name; it changes nothing",
+                help: "Of a fault, the next word as it is printed",
             },
             LineOption::FaultCause => OptionForm {
                 name: "cause",
                 value: OptionValue::Word,
                 value_name: "CAUSE",
-                help: "Of a fault, the cause that is printed last; it changes nothing",
+                help: "Of a fault, the last word as it is printed",
             },
             LineOption::Kind => OptionForm {
                 name: "kind",

@@ -68,9 +68,9 @@ pub struct LintOrder {
 pub struct Topic {
     pub name: Option<Word>,
     pub detail: Option<Word>,
-    /// What a fault prints after its name: a row, a key or a version.
+    /// The next word of a fault, as it is printed.
     pub fault_detail: Option<Word>,
-    /// What a fault prints after that: a cause.
+    /// The last word of a fault, as it is printed.
     pub fault_cause: Option<Word>,
 }
 

@@ -9,7 +9,7 @@ ghost use Rattle.wu_arguments.specs.Statuses.{refusal_status};
 use crate::order::Export;
 use crate::status::fault_status;
 use crate::usage::Usage;
-use std::alloc::AllocError;
+use std::alloc::{AllocError, AllocFailed};
 use wu_core::Fault;
 use wu_feed::LineCause;
 
@@ -19,7 +19,7 @@ pub enum Outsider {
     Script,
     Session,
     Check,
-    /// What is made of a copy of the project. A session makes it.
+    /// What is made of a copy of the project. A session makes it, and so does the end of a script.
     Export(Export),
     Lint,
     Explanation,
@@ -38,6 +38,8 @@ pub enum Refusal {
     Repeat,
     /// What it tries is no line.
     Try,
+    /// It asks for no export, and a line before it does.
+    AfterExport,
     /// A value or a file of it is refused.
     Fault(Fault),
 }
@@ -51,6 +53,7 @@ impl Drop for Refusal {
             Refusal::Outsider(_outsider) => {}
             Refusal::Repeat => {}
             Refusal::Try => {}
+            Refusal::AfterExport => {}
             Refusal::Fault(_fault) => {}
         }
     }
@@ -84,6 +87,14 @@ impl From<AllocError> for Refusal {
     ghost from_gives = { λ _ refusal. refusal ≡ why.Fault fault.Memory };
 
     fn from(_error: AllocError) -> Refusal {
+        Refusal::Fault(Fault::Memory)
+    }
+}
+
+impl<T: Drop> From<AllocFailed<T>> for Refusal {
+    ghost from_gives = { λ _ refusal. refusal ≡ why.Fault fault.Memory };
+
+    fn from(_error: AllocFailed<T>) -> Refusal {
         Refusal::Fault(Fault::Memory)
     }
 }
@@ -128,7 +139,8 @@ impl Refusal {
         ensures { result ≡ refusal_status self.now }
     {
         match self {
-            Refusal::Text(_) | Refusal::Outsider(_) | Refusal::Repeat | Refusal::Try => 2,
+            Refusal::Text(_) | Refusal::Outsider(_) => 2,
+            Refusal::Repeat | Refusal::Try | Refusal::AfterExport => 2,
             Refusal::Words(usage) => usage.status(),
             Refusal::Fault(fault) => fault_status(*fault),
         }

@@ -1,7 +1,7 @@
 //! The lines of a script as lines of the command line.
 
 ghost use Rattle.std.specs.Prelude.{◌≡◌, ◌++◌, ◌∷◌, ◌<◌, codes, drop, IfOk, length, map, string_bytes};
-ghost use Rattle.wu_arguments.specs.Scripts.{command_words, mode_of, mode_of_word, outsider_first, outsider_word, ReadsRepeated, ReadsTried, ReadsWords, ReadsWordsOf};
+ghost use Rattle.wu_arguments.specs.Scripts.{begins_line, command_words, may_be_line, mode_of, mode_of_word, outsider_first, outsider_word, ReadsRepeated, ReadsTried, ReadsWords, ReadsWordsOf};
 
 use crate::line::{Asking, Line};
 use crate::order::Order;
@@ -80,10 +80,33 @@ fn line_of_words(alloc: Global, db: &str, words: Words) -> Result<Line, Refusal>
     }
 }
 
+/// Returns whether a word may begin what is repeated or tried: it is neither `repeat` nor `try`.
+fn begins_line(word: &str) -> bool
+    ensures { result ≡ begins_line word.now }
+{
+    match word {
+        "repeat" | "try" => false,
+        _ => true,
+    }
+}
+
+/// Returns whether these words may be what is repeated or tried: there is a first one, and that may begin it.
+fn may_be_line(words: &[String]) -> bool
+    ensures { result ≡ may_be_line (map string_bytes words.now) }
+{
+    match words.first() {
+        Some(word) => begins_line(word.as_str()),
+        None => false,
+    }
+}
+
 /// Returns the pass that these words of a script ask for, which stand after `repeat`.
 fn pass_of_words(alloc: Global, db: &str, words: Words) -> Result<Line, Refusal>
     ensures { ReadsRepeated db.now words result }
 {
+    if !may_be_line(words.as_slice()) {
+        return Err(Refusal::Repeat);
+    }
     match line_of_words(alloc, db, words) {
         Ok(line) => match line.asking {
             Asking::Pass { .. } => Ok(line),
@@ -97,6 +120,9 @@ fn pass_of_words(alloc: Global, db: &str, words: Words) -> Result<Line, Refusal>
 fn tried_of_words(alloc: Global, db: &str, words: Words) -> Result<Line, Refusal>
     ensures { ReadsTried db.now words result }
 {
+    if !may_be_line(words.as_slice()) {
+        return Err(Refusal::Try);
+    }
     match line_of_words(alloc, db, words) {
         Ok(line) => Ok(line),
         Err(why) => Err(why.of_tried()),

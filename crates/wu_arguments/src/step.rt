@@ -2,10 +2,11 @@
 
 ghost use Rattle.std.specs.Prelude.{◌≡◌};
 ghost use Rattle.wu_arguments.specs.Statuses.{refusal_status};
-ghost use Rattle.wu_arguments.specs.Steps.{GivesStep, GivesSteps, lacks_memory};
+ghost use Rattle.wu_arguments.specs.Steps.{GivesScript, GivesStep, GivesSteps, lacks_memory, Takes};
 
 use crate::action::{Action, read_and_prepare};
 use crate::files::ReadFile;
+use crate::order::Export;
 use crate::refusal::Refusal;
 use crate::script::{Mode, line_of_all, mode_of};
 use std::alloc::Global;
@@ -45,6 +46,15 @@ impl Step {
         } = self;
         action
     }
+}
+
+/// What a script asks for, with all files read.
+#[derive(Drop)]
+pub struct Script {
+    /// What its lines ask of its project.
+    pub steps: Rows<Step>,
+    /// What its last lines ask to be made of a copy of the project, after the steps.
+    pub exports: Rows<Export>,
 }
 
 /// The first line of a script that cannot be run, and why.
@@ -155,4 +165,53 @@ pub fn steps_of<F: ReadFile>(
         }
     }
     Ok(Rows::from_vec(steps))
+}
+
+/// Adds what a line asks for to what the lines before it ask for: a step, or an export. After an export a step is
+/// refused.
+fn take(
+    steps: &mut Vec<Step>,
+    exports: &mut Vec<Export>,
+    asked: Result<Step, Refusal>,
+) -> Result<(), Refusal>
+    ensures { Takes steps.old.items exports.old.items asked
+        steps.new.items exports.new.items result }
+{
+    match asked {
+        Ok(step) if exports.is_empty() => steps.push(step)?,
+        Ok(_step) => return Err(Refusal::AfterExport),
+        Err(why) => exports.push(why.into_export()?)?,
+    }
+    Ok(())
+}
+
+/// Returns what the lines of a script ask for: the steps over the project in a database, and then the exports with which
+/// the script ends; or the first line that cannot be run.
+///
+/// It is as `steps_of`, but for the last lines: these may ask for exports. Any other line after an export is refused.
+pub fn script_of_lines<F: ReadFile>(
+    alloc: Global,
+    db: &str,
+    lines: Rows<ScriptLine>,
+    files: &F,
+) -> Result<Script, BadLine>
+    // There is a step or an export for each line, in order, and no step after an export; else the
+    // first line that cannot be run is reported. Out of memory is reported with the number of a
+    // line that can be run, after lines that can.
+    ensures { GivesScript (F.ReadFile.gives files.now) db.now lines result }
+{
+    let mut steps = Vec::new(alloc);
+    let mut exports = Vec::new(alloc);
+    for line in lines.into_vec() {
+        let number = line.number;
+        let asked = step_of(alloc, db, line, files);
+        match take(&mut steps, &mut exports, asked) {
+            Ok(()) => {}
+            Err(why) => return Err(BadLine { number, why }),
+        }
+    }
+    Ok(Script {
+        steps: Rows::from_vec(steps),
+        exports: Rows::from_vec(exports),
+    })
 }

@@ -184,7 +184,7 @@ impl Subcommand {
                 name: "script",
                 options: &[LineOption::Database, LineOption::File],
                 about: "Run the commands of a file in one opening, up to the first fault",
-                example: "Example: lintelthyme script --db project.db --file day.txt\nEach line is a command without --db. A line that begins with # is left out. After repeat, a pass runs until it handles\nless than its limit. After try, a command or a view is run, and the script goes on also where it is refused.",
+                example: "Example: lintelthyme script --db project.db --file day.txt\nEach line is a command without --db. A line that begins with # is left out. After repeat, a pass runs until it handles\nless than its limit. After try, a command or a view is run, and the script goes on also where it is refused.\nThe last lines may be backup --to FILE and outputs --to FOLDER: these run after the others, if none ended the script.",
             },
             Subcommand::Session => SubcommandForm {
                 name: "session",

@@ -1,4 +1,5 @@
 mod TextLemmas
+mod ExportLemmas
 mod ActionLemmas
 mod TryLemmas
 pub mod ScriptLemmas

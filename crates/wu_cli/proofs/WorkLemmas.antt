@@ -85,7 +85,7 @@ module _ {S W : Type 0} {store : Ghosts S} (contents : W → Option (List ℕ)) 
 
   pub work_clean : (asked : Work) (done : Result (Unit {0}) Trouble) → PerformsWork contents old new out_old out_new asked done → FaultsOnlyGrow (state_of old) (state_of new)
   work_clean (work.Line action) done (end, does, is) = one_clean contents old new out_old out_new action end does
-  work_clean (work.Script steps) done (end, does, is) = script_clean contents old new out_old out_new steps end does
+  work_clean (work.Script script) done (end, does, is) = script_clean contents old new out_old out_new script.steps end does
 
   -- a beginning of its commands is done over each world that the session goes on over
   work_drives : (asked : Work) (done : Result (Unit {0}) Trouble) → PerformsWork contents old new out_old out_new asked done
@@ -93,9 +93,9 @@ module _ {S W : Type 0} {store : Ghosts S} (contents : W → Option (List ℕ)) 
       → DrivesWork world asked done (state_of new)
   work_drives (work.Line action) done (end, does, is) going clean world over =
       subst (λ d. DrivesWork world (work.Line action) d (state_of new)) (sym is) (line_works action end does going clean world over)
-  work_drives (work.Script steps) done (end, does, is) going clean world over =
-      let driven = drives_script contents old new out_old out_new steps end does going clean world over in
-      subst (λ d. DrivesWork world (work.Script steps) d (state_of new)) (sym is) (record {
+  work_drives (work.Script script) done (end, does, is) going clean world over =
+      let driven = drives_script contents old new out_old out_new script.steps end does going clean world over in
+      subst (λ d. DrivesWork world (work.Script script) d (state_of new)) (sym is) (record {
         count = driven.count;
         answers = driven.answers;
         is_cut = driven.is_cut;
@@ -145,9 +145,9 @@ module _ {S W : Type 0} {store : Ghosts S} (contents : W → Option (List ℕ)) 
   work_prints (work.Line action) done (end, does, is) going clean world shows =
       subst (λ d. WritesTo contents out_old out_new (printed_action world action) d) (sym is)
       (one_prints contents old new out_old out_new action end does going clean world shows)
-  work_prints (work.Script steps) done (end, does, is) going clean world shows =
-      subst (λ d. WritesTo contents out_old out_new (printed_steps world (unrolled world steps)) d) (sym is)
-      (script_prints contents old new out_old out_new steps end does going clean world shows)
+  work_prints (work.Script script) done (end, does, is) going clean world shows =
+      subst (λ d. WritesTo contents out_old out_new (printed_steps world (unrolled world script.steps)) d) (sym is)
+      (script_prints contents old new out_old out_new script.steps end does going clean world shows)
 
 module _ {S W : Type 0} (g : Ghosts S) (contents : W → Option (List ℕ)) (conn again : Held S) (out_old out_new : W) (asked : Work) (done : Result (Unit {0}) Trouble) where
   pub prints_over : DoesOver g contents conn again out_old out_new asked done → PrintsOver g contents conn again out_old out_new asked done

@@ -55,14 +55,14 @@ usage_text usage.Memory = fault_line fault.Memory
 
 -- The line for something that no script may contain.
 abbrev pub outsider_line : Outsider → List ℕ
-outsider_line outsider.Script = codes "a script cannot stand in a script" ++ line_end
-outsider_line outsider.Session = codes "a session cannot stand in a script" ++ line_end
-outsider_line outsider.Check = codes "a check cannot stand in a script" ++ line_end
-outsider_line (outsider.Export (export.Backup to)) = codes "a backup cannot stand in a script" ++ line_end
-outsider_line (outsider.Export (export.Outputs files)) = codes "outputs cannot stand in a script" ++ line_end
-outsider_line outsider.Lint = codes "a lint cannot stand in a script" ++ line_end
-outsider_line outsider.Explanation = codes "an explanation cannot stand in a script" ++ line_end
-outsider_line outsider.Help = codes "help cannot stand in a script" ++ line_end
+outsider_line outsider.Script = codes "a script is no line of a script or a session" ++ line_end
+outsider_line outsider.Session = codes "a session is no line of a script or a session" ++ line_end
+outsider_line outsider.Check = codes "a check is no line of a script or a session" ++ line_end
+outsider_line (outsider.Export (export.Backup to)) = codes "a backup cannot stand here" ++ line_end
+outsider_line (outsider.Export (export.Outputs files)) = codes "outputs cannot stand here" ++ line_end
+outsider_line outsider.Lint = codes "a lint is no line of a script or a session" ++ line_end
+outsider_line outsider.Explanation = codes "an explanation is no line of a script or a session" ++ line_end
+outsider_line outsider.Help = codes "help is no line of a script or a session" ++ line_end
 
 abbrev pub refusal_text : Refusal → List ℕ
 refusal_text (refusal.Text cause) = cause_text cause
@@ -70,6 +70,7 @@ refusal_text (refusal.Words usage) = usage_text usage
 refusal_text (refusal.Outsider outsider) = outsider_line outsider
 refusal_text refusal.Repeat = codes "only a pass can be repeated" ++ line_end
 refusal_text refusal.Try = codes "only a command or a view can be tried" ++ line_end
+refusal_text refusal.AfterExport = codes "after a backup or outputs only these can come" ++ line_end
 refusal_text (refusal.Fault fault) = fault_line fault
 
 -- The text of the first line that cannot be run, with the reason.

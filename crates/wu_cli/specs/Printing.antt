@@ -71,7 +71,7 @@ printed_steps world (step ∷ more) = printed_by step.mode world step.action ++ 
 -- What a line or a script prints.
 abbrev pub printed_work : World → Work → List ℕ
 printed_work world (work.Line action) = printed_action world action
-printed_work world (work.Script steps) = printed_steps world (unrolled world steps)
+printed_work world (work.Script script) = printed_steps world (unrolled world script.steps)
 
 -- ---- what goes out: exactly this, and with a fault a prefix of it
 

@@ -1,5 +1,5 @@
 -- What words ask of a project, with all files read, and what is done for it over an open database.
-use Rattle.std.specs.Prelude.{◌≡◌, ◌⊎◌, ℕ, Bool, true, false, List, length, Option, Some, None, OnOk, Result, Ok, Err}
+use Rattle.std.specs.Prelude.{◌≡◌, ◌⊎◌, ℕ, Bool, true, false, List, [], length, Option, Some, None, OnOk, Result, Ok, Err}
 use Rattle.sqlite.specs.Held.{Held, state}
 use Rattle.sqlite.specs.State.{State, HasCleanDisk}
 use Rattle.sqlite.specs.Store.{Ghosts}
@@ -19,13 +19,14 @@ use Rattle.wu_passes.specs.Projects.{connection_of, IsSessionOpen, KnowsTables, 
 use Rattle.wu_passes.specs.Standing.{GoesOn}
 use Rattle.wu_drive.specs.Driving.{Drives}
 use Rattle.wu_arguments.specs.Contents.{Prepares}
-use Rattle.wu_arguments.specs.Steps.{GivesSteps}
+use Rattle.wu_arguments.specs.Steps.{GivesScript}
 use Rattle.wu_arguments.specs.declared.action.Action.{Action}
 use Rattle.wu_arguments.specs.declared.line.Line.{Line}
+use Rattle.wu_arguments.specs.declared.order.Export.{Export}
 use Rattle.wu_arguments.specs.declared.order.ScriptFile.{ScriptFile}
 use Rattle.wu_arguments.specs.declared.step.BadLine.{BadLine}
 use Rattle.wu_arguments.specs.declared.step.LineFault.{LineFault}
-use Rattle.wu_arguments.specs.declared.step.Step.{Step}
+use Rattle.wu_arguments.specs.declared.step.Script.{Script}
 use Rattle.wu_cli.specs.Performing.{Performs}
 use Rattle.wu_cli.specs.Repeating.{commands_of_action, commands_of_steps, unrolled}
 use Rattle.wu_cli.specs.Scripting.{PerformsScript, so_far}
@@ -40,25 +41,14 @@ abbrev pub work_of_line : Result Action Fault → Result Work Trouble
 work_of_line (Ok action) = Ok (work.Line action)
 work_of_line (Err fault) = Err (trouble.Fault fault)
 
-abbrev pub work_of_script : Result (List Step) BadLine → Result Work Trouble
-work_of_script (Ok steps) = Ok (work.Script steps)
+abbrev pub work_of_script : Result Script BadLine → Result Work Trouble
+work_of_script (Ok script) = Ok (work.Script script)
 work_of_script (Err bad) = Err (trouble.BadLine bad)
 
 module _ (gives : List ℕ → ℕ → Option (List ℕ) → Type 0) where
   -- What a line asks for, with the contents of its files, or its fault.
   abbrev pub AsksOfLine : Line → Result Work Trouble → Type 0
   AsksOfLine line result = (asked : Result Action Fault) × Prepares gives line.asking asked × (result ≡ work_of_line asked)
-
-  -- The text of the script's file is a script, and its lines ask for this; or the first line that cannot be run is
-  -- reported.
-  pub record AsksOfText (script : ScriptFile) (result : Result Work Trouble) : Type 0 where
-    pub text : List ℕ
-    pub given : gives script.file longest_file (Some text)
-    pub lines : List ScriptLine
-    pub reads : script_of text ≡ Ok lines
-    pub steps : Result (List Step) BadLine
-    pub asks : GivesSteps gives script.db lines steps
-    pub asked : result ≡ work_of_script steps
 
   -- The script's file cannot be read, its text is no script, or the call is out of memory.
   abbrev pub IsUnreadScript : ScriptFile → Fault → Type 0
@@ -67,8 +57,26 @@ module _ (gives : List ℕ → ℕ → Option (List ℕ) → Type 0) where
       ⊎ (((fault ≡ BadFile 0 Unreadable) × gives script.file longest_file None)
       ⊎ ((text : List ℕ) × gives script.file longest_file (Some text) × (script_of text ≡ Err fault)))
 
+  -- The lines of the script in its file, or why there are none.
+  abbrev pub ReadsScript : ScriptFile → Result (List ScriptLine) Fault → Type 0
+  ReadsScript script (Ok lines) = (text : List ℕ) × gives script.file longest_file (Some text) × (script_of text ≡ Ok lines)
+  ReadsScript script (Err fault) = IsUnreadScript script fault
+
+  -- The script's file has these lines, and they ask for this; or the first line that cannot be run is reported.
+  pub record AsksOfText (script : ScriptFile) (result : Result Work Trouble) : Type 0 where
+    pub lines : List ScriptLine
+    pub reads : ReadsScript script (Ok lines)
+    pub parts : Result Script BadLine
+    pub asks : GivesScript gives script.db lines parts
+    pub asked : result ≡ work_of_script parts
+
   abbrev pub AsksOfScript : ScriptFile → Result Work Trouble → Type 0
   AsksOfScript script result = AsksOfText script result ⊎ ((fault : Fault) × IsUnreadScript script fault × (result ≡ Err (trouble.Fault fault)))
+
+-- What is to be made of a copy of the project once the work over it is done: a line asks for nothing.
+abbrev pub exports_of_work : Work → List Export
+exports_of_work (work.Line action) = []
+exports_of_work (work.Script script) = script.exports
 
 -- ---- over a project
 
@@ -85,14 +93,14 @@ script_outcome (Some end) = Err (trouble.LineFault end)
 abbrev pub PerformsWork : {S W : Type 0} {store : Ghosts S} → (W → Option (List ℕ)) → Project S store → Project S store → W → W → Work → Result (Unit {0}) Trouble → Type 0
 PerformsWork contents old new out_old out_new (work.Line action) done =
     (end : Option Fault) × Performs contents old new out_old out_new action end × (done ≡ line_outcome end)
-PerformsWork contents old new out_old out_new (work.Script steps) done =
-    (end : Option LineFault) × PerformsScript contents old new out_old out_new steps end × (done ≡ script_outcome end)
+PerformsWork contents old new out_old out_new (work.Script script) done =
+    (end : Option LineFault) × PerformsScript contents old new out_old out_new script.steps end × (done ≡ script_outcome end)
 
 -- The commands of the work over a world, in order. A view has none, and a repeated pass has one for each time that it
 -- is done.
 abbrev pub commands_of_work : World → Work → List Command
 commands_of_work world (work.Line action) = commands_of_action action
-commands_of_work world (work.Script steps) = commands_of_steps world (unrolled world steps)
+commands_of_work world (work.Script script) = commands_of_steps world (unrolled world script.steps)
 
 -- So many commands were done, each with the machine's reply, and the tables represent the world after them. If the
 -- session ended within the next command, a crash may also leave the world after that one. With success all were done.

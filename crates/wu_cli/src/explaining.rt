@@ -17,19 +17,16 @@ fn text_or_empty(word: &Option<Word>) -> &str {
     }
 }
 
-/// Returns the topic that is near to this one, where it has one word. Out of memory it is `None`.
+/// Returns the topic that is near to the first two words of this one. Out of memory it is `None`.
 fn near_topic(alloc: Global, topic: &Topic) -> Option<Word> {
-    match &topic.detail {
-        Some(_) => None,
-        None => {
-            let near = nearest(alloc, text_or_empty(&topic.name))?;
-            Word::from_text(alloc, near).ok()
-        }
-    }
+    let first = text_or_empty(&topic.name);
+    let second = text_or_empty(&topic.detail);
+    let near = nearest(alloc, first, second)?;
+    Word::from_text(alloc, near).ok()
 }
 
 /// Writes the explanation of a topic, and flushes. Words that name no topic are refused with status 2, and nothing is
-/// written; a topic that is near to one word is named.
+/// written; a topic that is near to them is named.
 pub fn explain<W: Write>(alloc: Global, topic: &Topic, out: &mut W) -> Result<(), Trouble>
     // The text of the topic goes out, which is not empty; or a prefix of it with `Output`. Or the
     // words name no topic, which is reported, and nothing goes out.
@@ -38,7 +35,8 @@ pub fn explain<W: Write>(alloc: Global, topic: &Topic, out: &mut W) -> Result<()
     let told = explanation(
         text_or_empty(&topic.name),
         text_or_empty(&topic.detail),
-        topic.fault_detail.is_some(),
+        text_or_empty(&topic.fault_detail),
+        text_or_empty(&topic.fault_cause),
     );
     let Some(text) = told else {
         let near = near_topic(alloc, topic);

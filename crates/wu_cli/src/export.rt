@@ -3,7 +3,7 @@
 ghost use Rattle.std.specs.Prelude.{◌≡◌, IsOkUnless};
 ghost use Rattle.wu_core.specs.declared.fault.Fault.TheVariants.{Output};
 ghost use Rattle.wu_report.specs.Writing.{WritesTo};
-ghost use Rattle.wu_cli.specs.Exports.{exported_line};
+ghost use Rattle.wu_cli.specs.Exports.{exported_line, Exports, ExportsEach, TellsMade};
 ghost use Rattle.wu_cli.specs.Outputs.{kept_line};
 
 use crate::backup::{Counts, write_backed_up};
@@ -70,4 +70,55 @@ pub fn write_exported<W: Write>(out: &mut W, place: &str, exported: Exported) ->
         Exported::Backup(counts) => write_backed_up(out, place, counts),
         Exported::Outputs(counts) => write_kept(out, place, counts),
     }
+}
+
+/// Reports what was made. Of what was not, returns why.
+pub fn report_made<W: Write>(
+    out: &mut W,
+    place: &str,
+    made: Result<Exported, Trouble>,
+) -> Result<(), Trouble>
+    // The line of what was made goes out, or a prefix of it with `Output`. Of what was not the
+    // trouble is returned, and nothing goes out.
+    ensures { TellsMade W.contents place.now made out.old out.new result }
+{
+    match made {
+        Ok(exported) => {
+            write_exported(out, place, exported)?;
+            Ok(())
+        }
+        Err(trouble) => Err(trouble),
+    }
+}
+
+/// Makes an export of the database at a path, and reports it. Of one that is not made, returns why.
+fn export_one<F: MakeExport, W: Write>(
+    files: &F,
+    path: &str,
+    export: &Export,
+    out: &mut W,
+) -> Result<(), Trouble>
+    ensures { Exports W.contents (F.MakeExport.exports files.now) path.now export.now
+        out.old out.new result }
+{
+    let made = files.export(path, export);
+    report_made(out, export.place(), made)
+}
+
+/// Makes exports of the database at a path, one after another, and reports each. Returns the trouble of the first that
+/// is not made or not reported; no further one is made then.
+pub fn export_each<F: MakeExport, W: Write>(
+    files: &F,
+    path: &str,
+    exports: &[Export],
+    out: &mut W,
+) -> Result<(), Trouble>
+    // The exports are made and reported in order, each once, up to the first trouble.
+    ensures { ExportsEach W.contents (F.MakeExport.exports files.now) path.now exports.now
+        out.old out.new result }
+{
+    for export in exports {
+        export_one(files, path, export, out)?;
+    }
+    Ok(())
 }

@@ -22,7 +22,7 @@ mod work;
 pub use backup::{Counts, Unmade, count_sound};
 pub use checking::check_over;
 pub use explaining::explain;
-pub use export::{Exported, MakeExport, write_exported};
+pub use export::{Exported, MakeExport, export_each, report_made};
 pub use line_trouble::LineTrouble;
 pub use linting::lint;
 pub use outputs::{KeepFile, Kept, KeptCounts, LostOutput, keep_sound};

@@ -190,14 +190,14 @@ fn outsider_line(outsider: &Outsider) -> &'static str
     ensures { result.now ≡ outsider_line outsider.now }
 {
     match outsider {
-        Outsider::Script => "a script cannot stand in a script\n",
-        Outsider::Session => "a session cannot stand in a script\n",
-        Outsider::Check => "a check cannot stand in a script\n",
-        Outsider::Export(Export::Backup(_)) => "a backup cannot stand in a script\n",
-        Outsider::Export(Export::Outputs(_)) => "outputs cannot stand in a script\n",
-        Outsider::Lint => "a lint cannot stand in a script\n",
-        Outsider::Explanation => "an explanation cannot stand in a script\n",
-        Outsider::Help => "help cannot stand in a script\n",
+        Outsider::Script => "a script is no line of a script or a session\n",
+        Outsider::Session => "a session is no line of a script or a session\n",
+        Outsider::Check => "a check is no line of a script or a session\n",
+        Outsider::Export(Export::Backup(_)) => "a backup cannot stand here\n",
+        Outsider::Export(Export::Outputs(_)) => "outputs cannot stand here\n",
+        Outsider::Lint => "a lint is no line of a script or a session\n",
+        Outsider::Explanation => "an explanation is no line of a script or a session\n",
+        Outsider::Help => "help is no line of a script or a session\n",
     }
 }
 
@@ -211,6 +211,7 @@ pub(crate) fn text_of_refusal<W: Write>(out: &mut W, why: &Refusal) -> Result<()
         Refusal::Outsider(outsider) => write_text(out, outsider_line(outsider)),
         Refusal::Repeat => write_line(out, "only a pass can be repeated"),
         Refusal::Try => write_line(out, "only a command or a view can be tried"),
+        Refusal::AfterExport => write_line(out, "after a backup or outputs only these can come"),
         Refusal::Fault(fault) => line_of_fault(out, *fault),
     }
 }

@@ -2,7 +2,7 @@
 
 ghost use Rattle.std.specs.Prelude.{◌≡◌};
 ghost use Rattle.wu_cli.specs.Printing.{PrintsOver};
-ghost use Rattle.wu_cli.specs.Working.{AsksOfLine, AsksOfScript, DoesOver, DrivesOver, line_outcome, PerformsWork, script_outcome};
+ghost use Rattle.wu_cli.specs.Working.{AsksOfLine, AsksOfScript, DoesOver, DrivesOver, exports_of_work, line_outcome, PerformsWork, ReadsScript, script_outcome};
 
 use crate::performing::{perform, perform_script};
 use crate::trouble::Trouble;
@@ -10,18 +10,19 @@ use sqlite::{Alter, Connection};
 use std::alloc::Global;
 use std::io::Write;
 use wu_arguments::{
-    Action, Line, LineFault, ReadFile, ScriptFile, Step, read_and_prepare, steps_of, text_of_script,
+    Action, Export, Line, LineFault, ReadFile, Script, ScriptFile, read_and_prepare,
+    script_of_lines, text_of_script,
 };
 use wu_core::Fault;
 use wu_drive::Project;
-use wu_feed::{LONGEST_FILE, Rows, read_script};
+use wu_feed::{LONGEST_FILE, Rows, ScriptLine, read_script};
 
 /// What is asked of a project. It holds the contents of all files that the words name, so they are read before it is
 /// done.
 #[derive(Drop)]
 pub enum Work {
     Line(Action),
-    Script(Rows<Step>),
+    Script(Script),
 }
 
 /// Returns how a line ended.
@@ -44,6 +45,18 @@ fn script_outcome(end: Option<LineFault>) -> Result<(), Trouble>
     }
 }
 
+/// Returns the lines of a script in its file, or why there are none.
+fn lines_of_script<F: ReadFile>(
+    alloc: Global,
+    script: &ScriptFile,
+    files: &F,
+) -> Result<Rows<ScriptLine>, Fault>
+    ensures { ReadsScript (F.ReadFile.gives files.now) script.now result }
+{
+    let text = text_of_script(files.read(script.file.as_str(), LONGEST_FILE)?)?;
+    read_script(alloc, text.as_slice())
+}
+
 impl Work {
     /// Returns what a line asks for, with what its files hold, as `read_and_prepare`.
     pub fn of_line<F: ReadFile>(alloc: Global, line: &Line, files: &F) -> Result<Work, Trouble>
@@ -54,7 +67,7 @@ impl Work {
         Ok(Work::Line(read_and_prepare(alloc, line, files)?))
     }
 
-    /// Returns what a script asks for, with what the files of its lines hold, as `steps_of`.
+    /// Returns what a script asks for, with what the files of its lines hold, as `script_of_lines`.
     pub fn of_script<F: ReadFile>(
         alloc: Global,
         script: &ScriptFile,
@@ -64,13 +77,24 @@ impl Work {
         // its first bad line, or its fault.
         ensures { AsksOfScript (F.ReadFile.gives files.now) script.now result }
     {
-        let text = text_of_script(files.read(script.file.as_str(), LONGEST_FILE)?)?;
-        let lines = read_script(alloc, text.as_slice())?;
-        let steps = steps_of(alloc, script.db.as_str(), lines, files)?;
-        Ok(Work::Script(steps))
+        let lines = lines_of_script(alloc, script, files)?;
+        let asked = script_of_lines(alloc, script.db.as_str(), lines, files)?;
+        Ok(Work::Script(asked))
     }
 
-    /// Does what is asked, up to the first fault.
+    /// Returns what is to be made of a copy of the project once all else is done: of a script what its last lines ask
+    /// for, and of a line nothing.
+    pub fn exports(&self) -> &[Export]
+        // A script has the exports that it ends with, and a line has none.
+        ensures { result.now ≡ exports_of_work self.now }
+    {
+        match self {
+            Work::Line(_) => &[],
+            Work::Script(script) => script.exports.as_slice(),
+        }
+    }
+
+    /// Does what is asked over the project, up to the first fault. Exports are left out.
     fn perform<S: Alter, W: Write>(
         &self,
         alloc: Global,
@@ -82,8 +106,8 @@ impl Work {
     {
         match self {
             Work::Line(action) => line_outcome(perform(alloc, project, action, out).1),
-            Work::Script(steps) => {
-                script_outcome(perform_script(alloc, project, steps.as_slice(), out).1)
+            Work::Script(script) => {
+                script_outcome(perform_script(alloc, project, script.steps.as_slice(), out).1)
             }
         }
     }
@@ -91,7 +115,7 @@ impl Work {
     /// Adopts the project in an open database, does what is asked over it, up to the first fault, and gives the
     /// database back.
     ///
-    /// Where nothing is adopted, no command is done and nothing is written.
+    /// Where nothing is adopted, no command is done and nothing is written. The exports are left out.
     pub fn perform_over<S: Alter, W: Write>(
         &self,
         alloc: Global,

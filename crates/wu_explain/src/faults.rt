@@ -27,12 +27,16 @@ fn fault_number<'a>(word: &str) -> Option<&'a str> {
     }
 }
 
-/// Returns the explanation of the fault of this number and this name, in lower case, as its line begins; `None` if there
-/// is no such fault.
+/// Returns the explanation of the fault of this number and this name, in lower case, as its line begins; `None` if
+/// there is no such fault.
 pub fn printed_fault_text<'a>(number: &str, name: &str) -> Option<&'a str>
     // A text that is returned is not empty.
     ensures { IfSome result (λ text. 1 ≤ length text.now) }
 {
+    // its name alone is a cause of F3
+    if number == "f17" && name == "output" {
+        return fault_text("F17");
+    }
     match (fault_number(number), fault_number(name)) {
         (Some(one), Some(other)) if one == other => fault_text(one),
         _ => None,

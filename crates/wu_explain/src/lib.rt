@@ -71,13 +71,41 @@ fn text_of_words<'a>(first: &str, second: &str, goes_on: bool) -> Option<&'a str
     }
 }
 
-/// Returns the explanation of a topic: its first word, and the second one, empty where there is none, both in any case.
-/// Without a word it is the list of all topics. A fault may go on with further words, as it is printed. Returns `None`
-/// if there is no such topic.
-pub fn explanation<'a>(first: &str, second: &str, goes_on: bool) -> Option<&'a str>
+/// Returns whether these words, in lower case, stand before a fault where it is printed: `=` and a status in a session,
+/// or `line` and its number with a colon for a script.
+fn stands_before_fault(first: &str, second: &str) -> bool {
+    match (first, second.strip_suffix(':')) {
+        ("=", None) => status_text(second).is_some(),
+        ("line", Some(number)) => number.parse::<u16>().is_ok(),
+        _ => false,
+    }
+}
+
+/// Returns the explanation of the fault of this number and this name, in any case; `None` if there is no such fault.
+fn text_of_fault<'a>(number: &str, name: &str) -> Option<&'a str>
     // A text that is returned is not empty.
     ensures { IfSome result (λ text. 1 ≤ length text.now) }
 {
+    let mut number_room = [0; MOST_BYTES];
+    let mut name_room = [0; MOST_BYTES];
+    match (
+        lowered(number, &mut number_room),
+        lowered(name, &mut name_room),
+    ) {
+        (Some(number), Some(name)) => printed_fault_text(number, name),
+        _ => None,
+    }
+}
+
+/// Returns the explanation of a topic: its words, in any case, each empty where there is none. Without a word it is the
+/// list of all topics. A fault may go on with further words, as it is printed. Its number and name may also stand after
+/// `=` and a status, as a session prints them, or after `line` and `NUMBER:`, as they are printed of a script. Returns
+/// `None` if there is no such topic.
+pub fn explanation<'a>(first: &str, second: &str, third: &str, fourth: &str) -> Option<&'a str>
+    // A text that is returned is not empty.
+    ensures { IfSome result (λ text. 1 ≤ length text.now) }
+{
+    let goes_on = !third.is_empty() || !fourth.is_empty();
     // as F17 prints it; in other cases it is a cause of F3
     if first == "Output" && second.is_empty() && !goes_on {
         return named_fault_text("f17");
@@ -88,7 +116,13 @@ pub fn explanation<'a>(first: &str, second: &str, goes_on: bool) -> Option<&'a s
         lowered(first, &mut first_room),
         lowered(second, &mut second_room),
     ) {
-        (Some(first), Some(second)) => text_of_words(first, second, goes_on),
+        (Some(first), Some(second)) => {
+            if stands_before_fault(first, second) {
+                text_of_fault(third, fourth)
+            } else {
+                text_of_words(first, second, goes_on)
+            }
+        }
         _ => None,
     }
 }

@@ -35,8 +35,9 @@ last command was done.
 Where it can't be opened, see that the path is right, that no other process has
 the file, that it may be read and written, and that the disk has room; while
 another process has it, wait or use flock. Where the path has no file but its log
-PATH-wal or its journal is there, where the path is that of a log, or where the
-file is no database, nothing is opened: put the database back beside its log.
+PATH-wal or its journal is there, where PATH-wal is a link that leads nowhere, where
+the path is that of a log, or where the file is no database, nothing is opened: put
+the database back beside its log.
 check --db PATH names the cause, where a copy of both files shows it.
 Else open it again by show --view summary: each command that was acknowledged is
 there, and the last one whole or not at all. Then repeat that command. An import

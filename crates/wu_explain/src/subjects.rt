@@ -154,6 +154,11 @@ as a command of its own, and at most a million times:
 Behind the word try a command, a cycle or a view is run, and where it is refused with
 F1 to F12 that fault is printed in place of its answer, and the script goes on:
   try cancel --workunit job_7
+The last lines may ask for what is made of a copy of the project:
+  backup --to FILE
+  outputs --to FOLDER
+They run after the other lines, if none of these ended the script, and up to the
+first that is not made. The database is closed then, and no other process has it.
 ",
         ),
         "checks" => Some(
@@ -187,8 +192,9 @@ What a check finds wrong is told instead, with its status, and no file is made. 
 is a path where something lies, with status 1, and with 3 a disk that does not take
 the file. While another process has the project, there is no backup of it; a line
   backup --to FILE
-of a session makes one between two commands. After a crash FILE is there whole or
-not at all; a FILE-part that is left may be removed.
+of a session makes one between two commands, and at the end of a script it makes one
+after the others. After a crash FILE is there whole or not at all; a FILE-part that
+is left may be removed.
 ",
         ),
         "lint" => Some(
@@ -210,9 +216,10 @@ file's place is told with the number of the workunit, with status 1, and a disk 
 takes no more with 3; the files before it stay. FOLDER has to be there. While another
 process has the project, there are no outputs of it; a line
   outputs --to FOLDER
-of a session writes them between two commands. Of a run that was stopped a NAME+part
-may be left, which the next one replaces. The project keeps each output: where the
-power failed during a run, empty FOLDER and run it again.
+of a session writes them between two commands, and at the end of a script after the
+others. Of a run that was stopped a NAME+part may be left, which the next one
+replaces. The project keeps each output: where the power failed during a run, empty
+FOLDER and run it again.
 ",
         ),
         _ => None,

@@ -1,10 +1,8 @@
--- What is made of a copy of the database at a path, and how it is reported.
-use Rattle.std.specs.Prelude.{◌≡◌, ℕ, List, Option, Result, Ok, Err}
-use Rattle.wu_arguments.specs.Lines.{export_place}
+-- What is made of a copy of the database at a path.
+use Rattle.std.specs.Prelude.{ℕ, List, Result, Ok, Err}
 use Rattle.wu_arguments.specs.declared.order.Export.{Export}
 use Rattle.wu_arguments.specs.declared.order.Export.TheVariants as export
 use Rattle.wu_arguments.specs.declared.order.OutputFiles.{OutputFiles}
-use Rattle.wu_cli.specs.Exports.{ReportsExport}
 use Rattle.wu_cli.specs.declared.export.Exported.{Exported}
 use Rattle.wu_cli.specs.declared.export.Exported.TheVariants as exported
 use Rattle.wu_cli.specs.declared.trouble.Trouble.{Trouble}
@@ -28,14 +26,3 @@ module _ (makes keeps : List ℕ → List ℕ → Type 0) (path : List ℕ) wher
   abbrev pub MakesExport : Export → Result Exported Trouble → Type 0
   MakesExport (export.Backup to) made = IsBackup to made
   MakesExport (export.Outputs asked) made = AreOutputs asked made
-
--- The line of what was made goes out, or a prefix of it with `Output`. Of what was not the trouble is returned, and
--- nothing goes out.
-abbrev pub TellsMade : {W : Type 0} → (W → Option (List ℕ)) → List ℕ → Result Exported Trouble → W → W → Result (Unit {0}) Trouble → Type 0
-TellsMade contents place (Ok made) old new done = ReportsExport contents place made old new done
-TellsMade contents place (Err told) old new done = (done ≡ Err told) × (new ≡ old)
-
--- Something is made of a copy of the database at the path, and reported; or it is not made.
-abbrev pub Exports : {W : Type 0} → (List ℕ → List ℕ → Type 0) → (List ℕ → List ℕ → Type 0) → (W → Option (List ℕ)) → List ℕ → Export → W → W → Result (Unit {0}) Trouble → Type 0
-Exports makes keeps contents path export old new done =
-    (made : Result Exported Trouble) × MakesExport makes keeps path export made × TellsMade contents (export_place export) made old new done

@@ -19,18 +19,19 @@ use Rattle.wu_arguments.specs.declared.order.Order.{Order}
 use Rattle.wu_arguments.specs.declared.order.Order.TheVariants as order
 use Rattle.wu_arguments.specs.declared.order.Topic.{Topic}
 use Rattle.wu_cli.specs.Endings.{WritesAll}
+use Rattle.wu_cli.specs.Exports.{Exports, ExportsEach}
 use Rattle.wu_cli.specs.Explaining.{ExplainsTopic}
 use Rattle.wu_cli.specs.Linting.{Lints}
 use Rattle.wu_cli.specs.Printing.{PrintsOver}
 use Rattle.wu_cli.specs.Troubles.{trouble_of_opening, trouble_status, trouble_text}
-use Rattle.wu_cli.specs.Working.{DoesOver, DrivesOver}
+use Rattle.wu_cli.specs.Working.{DoesOver, DrivesOver, exports_of_work}
 use Rattle.wu_cli.specs.declared.trouble.Trouble.{Trouble}
 use Rattle.wu_cli.specs.declared.work.Work.{Work}
 use Rattle.wu_process.specs.Asking.{AsksFor, database_in, may_hold, RefusesWords}
 use Rattle.wu_process.specs.Backups.{may_become}
 use Rattle.wu_process.specs.Checks.{ChecksPath}
 use Rattle.wu_process.specs.Closing.{IsLeftByClose}
-use Rattle.wu_process.specs.Exports.{Exports}
+use Rattle.wu_process.specs.Exports.{MakesExport}
 use Rattle.wu_process.specs.Opening.{IsBar, IsOpenedAt, IsUnopened}
 use Rattle.wu_process.specs.declared.database.LeftDatabase.{LeftDatabase}
 use Rattle.wu_process.specs.declared.database.LeftDatabase.TheVariants as left
@@ -80,9 +81,15 @@ module _ {W : Type 0} (contents : W → Option (List ℕ)) where
   abbrev pub RunsAside : List (List ℕ) → W → W → Result (Unit {0}) Trouble → Type 0
   RunsAside words old new done =
       ((path : List ℕ) × IsOrderOf words (order.Check path) × ChecksPath contents path old new done)
-      ⊎ (((it : ExportOrder) × IsOrderOf words (order.Export it) × Exports may_become may_become contents it.db it.export old new done)
+      ⊎ (((it : ExportOrder) × IsOrderOf words (order.Export it) × Exports contents (MakesExport may_become may_become) it.db it.export old new done)
       ⊎ (((topic : Topic) × IsOrderOf words (order.Explain topic) × ExplainsTopic contents old new done)
       ⊎ ((it : LintOrder) × IsOrderOf words (order.Lint it) × Lints may_hold contents it old new done)))
+
+-- If all else of the work is done, its exports are made of the database at the path, and reported. Else its trouble is
+-- returned, and nothing more goes out.
+abbrev pub ExportsIfDone : {W : Type 0} → (W → Option (List ℕ)) → List ℕ → Work → W → W → Result (Unit {0}) Trouble → Result (Unit {0}) Trouble → Type 0
+ExportsIfDone contents path work old new (Ok first) done = ExportsEach contents (MakesExport may_become may_become) path (exports_of_work work) old new done
+ExportsIfDone contents path work old new (Err told) done = (done ≡ Err told) × (new ≡ old)
 
 module _ {S W : Type 0} {c : calls.Ghosts Host} {s : start.Ghosts S} {g : Ghosts (Modelled Host S c s)} (contents : W → Option (List ℕ)) where
   -- The database of this path is opened, over two files that held what the start says, and the work is done over it.
@@ -101,10 +108,17 @@ module _ {S W : Type 0} {c : calls.Ghosts Host} {s : start.Ghosts S} {g : Ghosts
   OpensAndDoes path work old new done (left.Unopened error rest) = DoesUnopened path old new done error rest
   OpensAndDoes path work old new done other = DoesOpened path work old new done other
 
+  -- The work is done over the database of this path, which is then closed. Then its exports are made.
+  pub record OpensAndExports (path : List ℕ) (work : Work) (old new : W) (done : Result (Unit {0}) Trouble) (left : LeftDatabase (Modelled Host S c s) g) : Type 0 where
+    pub mid : W
+    pub first : Result (Unit {0}) Trouble
+    pub does : OpensAndDoes path work old mid first left
+    pub exports : ExportsIfDone contents path work mid new first done
+
   -- The work is done over the database of this path; or it is refused, or the database is not opened, and nothing goes
   -- out.
   abbrev pub RunsWork : List ℕ → Result Work Trouble → W → W → Result (Unit {0}) Trouble → Option (LeftDatabase (Modelled Host S c s) g) → Type 0
-  RunsWork path (Ok work) old new done (Some left) = OpensAndDoes path work old new done left
+  RunsWork path (Ok work) old new done (Some left) = OpensAndExports path work old new done left
   RunsWork path (Ok work) old new done None = Bars old new done
   RunsWork path (Err trouble) old new done (Some left) = ⊥
   RunsWork path (Err trouble) old new done None = (done ≡ Err trouble) × (new ≡ old)
@@ -114,7 +128,7 @@ module _ {S W : Type 0} {c : calls.Ghosts Host} {s : start.Ghosts S} {g : Ghosts
     pub order : Order
     pub work : Work
     pub asked : AsksFor words order work
-    pub runs : OpensAndDoes (database_in order) work old new done left
+    pub runs : OpensAndExports (database_in order) work old new done left
 
   -- A run leaves a database only if its words ask for work. Otherwise it is refused, a check, an export, an explanation,
   -- or a reading of a file.

@@ -1,7 +1,7 @@
 //! The database that words name: it is opened, the work done over it, and it is closed.
 
 ghost use Rattle.wu_process.specs.Closing.{IsLeftByClose};
-ghost use Rattle.wu_process.specs.Running.{OpensAndDoes, RunsWork};
+ghost use Rattle.wu_process.specs.Running.{ExportsIfDone, OpensAndDoes, RunsWork};
 ghost use Rattle.wu_process.specs.Serving.{OpensAndServes, ServesAt};
 
 use crate::beside::bar;
@@ -10,7 +10,7 @@ use crate::opening::{MOST_PAGES, open_at, pages_for};
 use sqlite::{Connection, Error, FileFrom, FileStore, Files, Leftover, Start};
 use sqlite_disk::Disk;
 use std::io::{BufRead, Write};
-use wu_cli::{Trouble, Work, serve_over, unopened};
+use wu_cli::{Trouble, Work, export_each, serve_over, unopened};
 
 /// What is left of the database that words name.
 pub enum LeftDatabase<D: Disk> {
@@ -50,14 +50,14 @@ fn close_database<D: Disk + Drop>(conn: Connection<FileStore<D>>) -> LeftDatabas
 fn open_and_do<S: Start, O: Write>(
     rt: &HostRuntime,
     database: &str,
-    work: Work,
+    work: &Work,
     start: S,
     out: &mut O,
 ) -> (Result<(), Trouble>, LeftDatabase<FileFrom<S>>)
     // The work is done over the opened database, which is then closed; or nothing is opened, and that is reported.
-    ensures { OpensAndDoes O.contents database.now work out.old out.new result.0 result.1 }
+    ensures { OpensAndDoes O.contents database.now work.now out.old out.new result.0 result.1 }
 {
-    let pages = pages_for(rt, database, &work);
+    let pages = pages_for(rt, database, work);
     match open_at(rt, database, start, pages) {
         Ok(conn) => {
             let (conn, done) = work.perform_over(rt.alloc(), conn, out);
@@ -70,9 +70,26 @@ fn open_and_do<S: Start, O: Write>(
     }
 }
 
-/// Opens the database, does the work that is asked over it, and closes it. The work holds what its files held, so these
-/// were read before. If `asked` is a trouble, or the database must not or cannot be opened, that is returned, and nothing
-/// is written.
+/// Makes what the work asks to be made of a copy of the project, if all else of it is done. This process still holds the
+/// files of the database, which is closed.
+fn export_if_done<O: Write>(
+    rt: &HostRuntime,
+    database: &str,
+    work: &Work,
+    done: Result<(), Trouble>,
+    out: &mut O,
+) -> Result<(), Trouble>
+    ensures { ExportsIfDone O.contents database.now work.now out.old out.new done result }
+{
+    match done {
+        Ok(()) => export_each(&HostFiles::new(rt), database, work.exports(), out),
+        Err(trouble) => Err(trouble),
+    }
+}
+
+/// Opens the database, does the work that is asked over it, and closes it. Then it makes the exports with which the work
+/// ends. The work holds what its files held, so these were read before. If `asked` is a trouble, or the database must not
+/// or cannot be opened, that is returned, and nothing is written.
 pub fn open_and_perform<S: Start, O: Write>(
     rt: &HostRuntime,
     database: &str,
@@ -80,16 +97,16 @@ pub fn open_and_perform<S: Start, O: Write>(
     start: S,
     out: &mut O,
 ) -> (Result<(), Trouble>, Option<LeftDatabase<FileFrom<S>>>)
-    // The database of this path is opened, its work is done and written, and it is closed. Or it
-    // cannot be opened, which is reported, and nothing goes out. If `asked` is a trouble, that is
-    // returned, and nothing is opened.
+    // The database of this path is opened, its work is done and written, and it is closed. Then the
+    // exports of the work are made, if all else was done. Or it cannot be opened, which is reported,
+    // and nothing goes out. If `asked` is a trouble, that is returned, and nothing is opened.
     ensures { RunsWork O.contents database.now asked out.old out.new result.0 result.1 }
 {
     match asked {
         Ok(work) => match bar(rt, database) {
             Ok(()) => {
-                let (done, left) = open_and_do(rt, database, work, start, out);
-                (done, Some(left))
+                let (done, left) = open_and_do(rt, database, &work, start, out);
+                (export_if_done(rt, database, &work, done, out), Some(left))
             }
             Err(barred) => (Err(barred), None),
         },

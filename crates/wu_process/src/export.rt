@@ -2,7 +2,8 @@
 
 ghost use Rattle.wu_arguments.specs.declared.order.Export.TheVariants.{Backup, Outputs};
 ghost use Rattle.wu_process.specs.Backups.{may_become};
-ghost use Rattle.wu_process.specs.Exports.{Exports, MakesExport, TellsMade};
+ghost use Rattle.wu_cli.specs.Exports.{Exports};
+ghost use Rattle.wu_process.specs.Exports.{MakesExport};
 
 use crate::backup::make_backup;
 use crate::files::HostFiles;
@@ -10,7 +11,7 @@ use crate::new_file::MakeFile;
 use crate::outputs::keep_of_path;
 use std::io::Write;
 use wu_arguments::{Export, ExportOrder, OutputFiles};
-use wu_cli::{Exported, KeepFile, MakeExport, Trouble, write_exported};
+use wu_cli::{Exported, KeepFile, MakeExport, Trouble, report_made};
 
 /// Makes a backup of the database at a path, as `make_backup`.
 fn backup_of<F: MakeFile + KeepFile>(
@@ -63,23 +64,6 @@ fn make_export<F: MakeFile + KeepFile>(
     }
 }
 
-/// Reports what was made. Of what was not, returns why.
-fn report_made<O: Write>(
-    out: &mut O,
-    place: &str,
-    made: Result<Exported, Trouble>,
-) -> Result<(), Trouble>
-    ensures { TellsMade O.contents place.now made out.old out.new result }
-{
-    match made {
-        Ok(exported) => {
-            write_exported(out, place, exported)?;
-            Ok(())
-        }
-        Err(trouble) => Err(trouble),
-    }
-}
-
 /// Makes what is asked of a copy of the sound project in a database, and reports it on the writer. The database is only
 /// read. Of what is not made the trouble is why, and nothing goes out.
 pub fn export<F: MakeFile + KeepFile, O: Write>(
@@ -90,7 +74,8 @@ pub fn export<F: MakeFile + KeepFile, O: Write>(
 ) -> Result<(), Trouble>
     // A backup or outputs are made of a copy of the database, and the line that reports them goes
     // out. Else the reason is reported, and nothing goes out.
-    ensures { Exports (F.MakeFile.makes files.now) (F.KeepFile.keeps files.now) O.contents
+    ensures { Exports O.contents
+        (MakesExport (F.MakeFile.makes files.now) (F.KeepFile.keeps files.now))
         asked.now.db asked.now.export out.old out.new result }
 {
     let made = make_export(rt, asked.db.as_str(), &asked.export, files, false);

@@ -4,7 +4,7 @@ use Rattle.std.proofs.Math.Logic.{∥∥₁_map}
 use Rattle.std.specs.List.{AllZip}
 use Rattle.std.proofs.lemmas.List.{map-append, take_more}
 use Rattle.std.proofs.lemmas.Option.{get_or_from_slice_get, slice_get_within}
-use Rattle.std.specs.Prelude.{OnOk, slice_get}
+use Rattle.std.specs.Prelude.{IfErr, OnOk, slice_get}
 use Rattle.sqlite_disk.specs.declared.Disk.{Ghosts}
 use Rattle.sqlite_disk.specs.declared.Files.{Files}
 use Rattle.sqlite_wal.proofs.LogLemmas.{SeenMayStay}
@@ -64,7 +64,7 @@ use Rattle.wu_passes.proofs.SessionLemmas.{over_shows}
 use Rattle.wu_machine.specs.declared.view.View.{View}
 use Rattle.wu_report.specs.Texts.{view_text}
 use Rattle.wu_report.specs.Writing.{AppendsFront, WritesTo}
-use Rattle.wu_arguments.specs.declared.step.Step.{Step}
+use Rattle.wu_arguments.specs.declared.step.Script.{Script}
 use Rattle.std.proofs.Math.Seq.{take-length}
 use Rattle.std.specs.Io.KnownBytes.{Appends}
 use Rattle.wu_cli.specs.Backups.{unmade_status}
@@ -85,7 +85,7 @@ use Rattle.sqlite_wal.specs.Files.{image_at}
 use Rattle.wu_stops.specs.Closing.{IsNumbered}
 use Rattle.wu_lives.specs.Runs.{HoldsWorld}
 use Rattle.wu_process.specs.Opening.{IsOpenedAt}
-use Rattle.wu_process.specs.Running.{TellsTrouble}
+use Rattle.wu_process.specs.Running.{ExportsIfDone, TellsTrouble}
 use Rattle.wu_process.specs.declared.End.{End}
 use Rattle.wu_process.specs.declared.database.LeftDatabase.TheVariants as left
 use Rattle.wu_process_laws.specs.Runs.{BeginsWhereOneEnded, BeginsWhereOneStopped, done_by, done_by_unclosed, HoldAfter, HoldAfterOneMore, Holds, LeavesAsItWas, LeavesDone, LeavesItsDone, LeavesItsDoneOrMore, LeavesItsWork, LeavesItsWorkUnclosed, OfEachImage, ImageRefines, TellsDone}
@@ -127,11 +127,13 @@ refusal_told (refusal.Words u) none = usage_told u none
 refusal_told (refusal.Outsider outsider) none = absurd (omega (arith, none))
 refusal_told refusal.Repeat none = absurd (omega (arith, none))
 refusal_told refusal.Try none = absurd (omega (arith, none))
+refusal_told refusal.AfterExport none = absurd (omega (arith, none))
 refusal_told (refusal.Fault f) none = fault_told f none
 
 reason_told : (r : Reason) → reason_status r ≡ 0 → ⊥
 reason_told reason.NoFile none = absurd (omega (arith, none))
 reason_told reason.LogAlone none = absurd (omega (arith, none))
+reason_told reason.LostLog none = absurd (omega (arith, none))
 reason_told reason.InUse none = absurd (omega (arith, none))
 reason_told reason.NoDatabase none = absurd (omega (arith, none))
 reason_told reason.OtherKind none = absurd (omega (arith, none))
@@ -167,16 +169,24 @@ trouble_told trouble.NoFolder none = absurd (omega (arith, none))
 trouble_told (trouble.Lost lost) none = unmade_told lost.why none
 trouble_told (trouble.Unread unread) none = fault_told unread.fault none
 
--- with status 0 there was no trouble
-whole_at : {W : Type 0} (contents : W → Option (List ℕ)) (old new : W) (done : Result (Unit {0}) Trouble) (status : ℕ) (is_told : Bool) (A : Type 0)
-    → TellsTrouble contents old new done status is_told → OnOk done A → status ≡ 0 → A
-whole_at contents old new (Ok done) status is_told A tells whole none = whole
-whole_at contents old new (Err t) status is_told A tells whole none = absurd (trouble_told t (sym tells.0 ∙ none))
+-- the status is that of the trouble, where there is one
+abbrev HasStatus : Result (Unit {0}) Trouble → ℕ → Type 0
+HasStatus done status = IfErr done (λ t. status ≡ trouble_status t)
 
-status_at : {W : Type 0} (contents : W → Option (List ℕ)) (old new : W) (done : Result (Unit {0}) Trouble) (status : ℕ) (is_told : Bool) (f : Fault)
-    → TellsTrouble contents old new done status is_told → done ≡ Err (trouble.Fault f) → status ≡ fault_status f
-status_at contents old new done status is_told f tells told =
-    (subst (λ (d : Result (Unit {0}) Trouble). TellsTrouble contents old new d status is_told) told tells).0
+-- with status 0 there was no trouble
+whole_at : (done : Result (Unit {0}) Trouble) (status : ℕ) (A : Type 0) → HasStatus done status → OnOk done A → status ≡ 0 → A
+whole_at (Ok done) status A has whole none = whole
+whole_at (Err t) status A has whole none = absurd (trouble_told t (sym has ∙ none))
+
+status_at : (done : Result (Unit {0}) Trouble) (status : ℕ) (f : Fault) → HasStatus done status → done ≡ Err (trouble.Fault f) → status ≡ fault_status f
+status_at done status f has told = subst (λ (d : Result (Unit {0}) Trouble). HasStatus d status) told has
+
+-- the trouble of what comes before the exports ends the run
+first_status : {V W : Type 0} (contents : V → Option (List ℕ)) (path : List ℕ) (asked : Work) (old new : V) (told_of : W → Option (List ℕ)) (err_old err_new : W) (first done : Result (Unit {0}) Trouble) (status : ℕ) (is_told : Bool)
+    → ExportsIfDone contents path asked old new first done → TellsTrouble told_of err_old err_new done status is_told → HasStatus first status
+first_status contents path asked old new told_of err_old err_new (Ok it) done status is_told exports tells = tt
+first_status contents path asked old new told_of err_old err_new (Err t) done status is_told (told, unwritten) tells =
+    (subst (λ (d : Result (Unit {0}) Trouble). TellsTrouble told_of err_old err_new d status is_told) told tells).0
 
 -- ---- what is doubted of the disk stays doubted through a run
 
@@ -225,15 +235,15 @@ module _ {D W : Type 0} {g : Ghosts D} (contents : W → Option (List ℕ)) (con
       )
 
   -- a script was
-  script_told : (steps : List Step) (does : DoesAdopted over_files contents conn again old new (work.Script steps) done) → HasCleanDisk (file_state again) → (world : World) → IsProject world
-      → BeginsFrom (file_state conn) world → ToldWork world (work.Script steps)
-  script_told steps does clean world project begun =
+  script_told : (script : Script) (does : DoesAdopted over_files contents conn again old new (work.Script script) done) → HasCleanDisk (file_state again) → (world : World) → IsProject world
+      → BeginsFrom (file_state conn) world → ToldWork world (work.Script script)
+  script_told script does clean world project begun =
       let (end, performs, told) = does.does in
       let after : HasCleanDisk (state_of does.new) = subst (λ c. HasCleanDisk (file_state c)) does.released clean in
-      let before : HasCleanDisk (state_of does.old) = let kept = script_clean contents does.old does.new old new steps end performs in omega (arith, kept, after) in
+      let before : HasCleanDisk (state_of does.old) = let kept = script_clean contents does.old does.new old new script.steps end performs in omega (arith, kept, after) in
       let over = begins over_files contents conn again old new _ done does before world project begun in
-      let driven = drives_script contents does.old does.new old new steps end performs does.begins after world over in
-      let commands = commands_of_work world (work.Script steps) in
+      let driven = drives_script contents does.old does.new old new script.steps end performs does.begins after world over in
+      let commands = commands_of_work world (work.Script script) in
       let whole : OnOk done (driven.count ≡ length commands) = subst (λ (d : Result (Unit {0}) Trouble). OnOk d (driven.count ≡ length commands)) (sym told) (script_whole end _ driven.whole) in (
         record {
           count = driven.count;
@@ -273,8 +283,8 @@ module _ {D W : Type 0} {g : Ghosts D} (contents : W → Option (List ℕ)) (con
   work_told (work.Line (Commands commands)) (inr none) drives clean world project begun = inr (nothing_told _ none clean world)
   work_told (work.Line (Look view)) (inl does) drives clean world project begun = elim (drives clean world project begun) [ inl works ↦ inl (works, view_told view does clean world project begun) | inr refuses ↦ inr refuses ]
   work_told (work.Line (Look view)) (inr none) drives clean world project begun = inr (nothing_told _ none clean world)
-  work_told (work.Script steps) (inl does) drives clean world project begun = inl (script_told steps does clean world project begun)
-  work_told (work.Script steps) (inr none) drives clean world project begun = inr (nothing_told _ none clean world)
+  work_told (work.Script script) (inl does) drives clean world project begun = inl (script_told script does clean world project begun)
+  work_told (work.Script script) (inr none) drives clean world project begun = inr (nothing_told _ none clean world)
 
 -- ---- what a run begins with
 
@@ -380,7 +390,7 @@ module _ {D : Type 0} {g : Ghosts D} (again : Held (FileStore D g)) (files : Fil
                 }
           ]
 
-  module _ {E : Type 0} (told_of : E → Option (List ℕ)) (err_old err_new : E) (done : Result (Unit {0}) Trouble) (status : ℕ) (is_told : Bool) (tells : TellsTrouble told_of err_old err_new done status is_told) where
+  module _ (done : Result (Unit {0}) Trouble) (status : ℕ) (has : HasStatus done status) where
     leaves_done : (says : Holds) (before after : Option (List ℕ)) (world : World) (asked : Work) (it : DrivesWork world asked done (file_state again)) → TellsDone before after world asked it.answers it.count
         → OfEachImage g files (says world (commands_of_work world asked) it.count) → LeavesDone g files says before after world asked status
     leaves_done says before after world asked it told held = record {
@@ -389,14 +399,14 @@ module _ {D : Type 0} {g : Ghosts D} (again : Held (FileStore D g)) (files : Fil
       answers = it.answers;
       answered = it.drives.answered;
       told = told;
-      whole = whole_at told_of err_old err_new done status is_told _ tells it.whole;
+      whole = whole_at done status _ has it.whole;
       held = held;
     }
 
     leaves_as_it_was : (conn : Held (FileStore D g)) (first : Image) (world : World) → (HoldsWorld first world → GoesOn (file_state conn) world) → RefusesWork (file_state conn) (file_state again) world done → LeavesAsItWas g files first world status
     leaves_as_it_was conn first world goes it = record {
       fault = it.fault;
-      told = status_at told_of err_old err_new done status is_told it.fault tells it.told;
+      told = status_at done status it.fault has it.told;
       why = it.why;
       held = λ held. all_hold world (it.stands (goes held));
     }
@@ -428,39 +438,43 @@ module _ {D : Type 0} {g : Ghosts D} (again : Held (FileStore D g)) (last : File
 
 module _ {S W E : Type 0} {c : calls.Ghosts Host} {s : start.Ghosts S} {g : Ghosts (Modelled Host S c s)} (stays : SeenMayStay g) (contents : W → Option (List ℕ)) (told_of : E → Option (List ℕ)) where
   -- a database was opened, the work was done over it, and each image holds what is left of that
-  opened_leaves : (says : Holds) (conn again : Held (FileStore (Modelled Host S c s) g)) (path : List ℕ) (asked : Work) (old new : W) (err_old err_new : E) (done : Result (Unit {0}) Trouble) (status : ℕ) (is_told : Bool) (files : Files (Modelled Host S c s))
-      → IsOpenedAt path (image_at s) conn → DoesOver over_files contents conn again old new asked done → DrivesOver over_files conn again asked done → TellsTrouble told_of err_old err_new done status is_told
+  opened_leaves : (says : Holds) (conn again : Held (FileStore (Modelled Host S c s) g)) (path : List ℕ) (asked : Work) (old new : W) (done : Result (Unit {0}) Trouble) (status : ℕ) (files : Files (Modelled Host S c s))
+      → IsOpenedAt path (image_at s) conn → DoesOver over_files contents conn again old new asked done → DrivesOver over_files conn again asked done → HasStatus done status
       → HasCleanDisk (file_state again) → OfEachImage g files (λ image. (db : Trees) × (file_state again).may_leave db × HoldsDatabase image db)
       → ((world : World) (it : DrivesWork world asked done (file_state again)) → OfEachImage g files (says world (commands_of_work world asked) it.count))
       → (world : World) → IsProject world → ImageRefines (image_at s) world → LeavesDone g files says (contents old) (contents new) world asked status ⊎ LeavesAsItWas g files (image_at s) world status
-  opened_leaves says conn again path asked old new err_old err_new done status is_told files at does drives tells clean each hold world project start =
+  opened_leaves says conn again path asked old new done status files at does drives has clean each hold world project start =
       let early : HasCleanDisk (file_state conn) = was_clean contents conn again old new asked done does clean in
       let opened : IsOpened conn = at.opens early in
       let found : FindsIn (image_at s) (file_state conn) = at.finds early in
       elim (work_told contents conn again old new done asked does drives clean world project (begins_from stays conn opened (image_at s) found world start)) [
-        | inl works ↦ inl (leaves_done again files each told_of err_old err_new done status is_told tells says (contents old) (contents new) world asked works.0 works.1 (hold world works.0))
-        | inr refuses ↦ inr (leaves_as_it_was again files each told_of err_old err_new done status is_told tells conn (image_at s) world (goes_from stays conn opened (image_at s) found world) refuses)
+        | inl works ↦ inl (leaves_done again files each done status has says (contents old) (contents new) world asked works.0 works.1 (hold world works.0))
+        | inr refuses ↦ inr (leaves_as_it_was again files each done status has conn (image_at s) world (goes_from stays conn opened (image_at s) found world) refuses)
       ]
 
   pub leaves_its_work : (end : End (Modelled Host S c s) g) → LeavesItsWork contents told_of end
   leaves_its_work end run =
       let runs = done_by contents told_of end run in
-      let conn = runs.runs.conn in
-      let it = runs.runs.does in
+      let opens = runs.runs in
+      let conn = opens.does.conn in
+      let it = opens.does.does in
+      let has = first_status contents _ runs.work _ _ told_of run.err_old run.err_new opens.first run.obeys.done end.status end.is_told opens.exports run.obeys.tells in
       λ honest.
       let copied : IsCopied it.again run.files = it.closed.copied honest in
       let each = copied_each it.again run.files stays copied in
-      opened_leaves HoldAfter conn it.again _ runs.work run.old run.new run.err_old run.err_new run.obeys.done end.status end.is_told run.files runs.runs.opened it.does it.drives run.obeys.tells copied.was_clean each
+      opened_leaves HoldAfter conn it.again _ runs.work run.old opens.mid opens.first end.status run.files opens.does.opened it.does it.drives has copied.was_clean each
       (λ world works. hold_after it.again run.files each copied.was_open world (commands_of_work world runs.work) works.answers works.count works.is_cut works.drives)
 
   pub leaves_its_work_unclosed : (end : End (Modelled Host S c s) g) → LeavesItsWorkUnclosed contents told_of end
   leaves_its_work_unclosed end run =
       let runs = done_by_unclosed contents told_of end run in
-      let conn = runs.runs.conn in
-      let it = runs.runs.does in
+      let opens = runs.runs in
+      let conn = opens.does.conn in
+      let it = opens.does.does in
+      let has = first_status contents _ runs.work _ _ told_of run.err_old run.err_new opens.first run.obeys.done end.status end.is_told opens.exports run.obeys.tells in
       λ honest.
       let each = unclosed_each it.again run.store it.closed.quiet run.numbered run.files run.files_are honest in
-      opened_leaves HoldAfterOneMore conn it.again _ runs.work run.old run.new run.err_old run.err_new run.obeys.done end.status end.is_told run.files runs.runs.opened it.does it.drives run.obeys.tells
+      opened_leaves HoldAfterOneMore conn it.again _ runs.work run.old opens.mid opens.first end.status run.files opens.does.opened it.does it.drives has
       (unclosed_clean it.again run.store it.closed.quiet run.numbered run.files run.files_are honest) each
       (λ world works. hold_one_more it.again run.files each world (commands_of_work world runs.work) works.answers works.count works.is_cut works.drives)
 

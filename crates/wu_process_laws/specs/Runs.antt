@@ -78,7 +78,7 @@ module _ {D : Type 0} (g : Ghosts D) (files : Files D) where
 abbrev pub TellsDone : Option (List ℕ) → Option (List ℕ) → World → Work → List Answer → ℕ → Type 0
 TellsDone before after world (work.Line (Commands commands)) answers count = (end : Option Fault) × WritesAnswers before after answers (record { acknowledged = count; end = end })
 TellsDone before after world (work.Line (Look view)) answers count = AppendsFront before after (view_text world view)
-TellsDone before after world (work.Script steps) answers count = (end : Option LineFault) × TellsSteps before after world (unrolled world steps) count end
+TellsDone before after world (work.Script script) answers count = (end : Option LineFault) × TellsSteps before after world (unrolled world script.steps) count end
 
 module _ {D : Type 0} (g : Ghosts D) (files : Files D) (says : Holds) (before after : Option (List ℕ)) where
   -- So many commands of the work were done, in order, each with the machine's reply; with status 0 all were. This
@@ -135,16 +135,17 @@ module _ {S W E : Type 0} {c : calls.Ghosts Host} {s : start.Ghosts S} {g : Ghos
   abbrev pub done_by_unclosed : (end : End (Modelled Host S c s) g) → (run : UnclosedRun end) → RunsAsked {g = g} contents run.words run.old run.new run.obeys.done (left.Unclosed run.error run.store)
   done_by_unclosed end run = subst (λ l. RunsWords {g = g} contents run.words run.old run.new run.obeys.done l) run.unclosed run.obeys.runs
 
-  -- The files hold a prefix of the work that was done, and no more.
+  -- The files hold a prefix of the work that was done, and no more. What went out before the exports of a script reports
+  -- it.
   abbrev pub LeavesItsDone : (end : End (Modelled Host S c s) g) → ClosedRun end → Type 0
-  LeavesItsDone end run = LeavesBeginning g run.files HoldAfter (contents run.old) (contents run.new) (image_at s) (done_by end run).work end.status
+  LeavesItsDone end run = LeavesBeginning g run.files HoldAfter (contents run.old) (contents (done_by end run).runs.mid) (image_at s) (done_by end run).work end.status
 
   abbrev pub LeavesItsWork : End (Modelled Host S c s) g → Type 0
   LeavesItsWork end = (run : ClosedRun end) → LeavesItsDone end run
 
   -- The files hold what was done, and at most the one command that was cut.
   abbrev pub LeavesItsDoneOrMore : (end : End (Modelled Host S c s) g) → UnclosedRun end → Type 0
-  LeavesItsDoneOrMore end run = LeavesBeginning g run.files HoldAfterOneMore (contents run.old) (contents run.new) (image_at s) (done_by_unclosed end run).work end.status
+  LeavesItsDoneOrMore end run = LeavesBeginning g run.files HoldAfterOneMore (contents run.old) (contents (done_by_unclosed end run).runs.mid) (image_at s) (done_by_unclosed end run).work end.status
 
   abbrev pub LeavesItsWorkUnclosed : End (Modelled Host S c s) g → Type 0
   LeavesItsWorkUnclosed end = (run : UnclosedRun end) → LeavesItsDoneOrMore end run
@@ -156,7 +157,7 @@ module _ {S T W E : Type 0} {c d : calls.Ghosts Host} {s : start.Ghosts S} {t : 
   -- Over this world, the second run did a prefix of its work, or adopted no project.
   abbrev pub DoesNext : ClosedRun contents told_of second → Work → World → Type 0
   DoesNext run asked world =
-      LeavesDone h run.files HoldAfter (contents run.old) (contents run.new) world asked second.status ⊎ LeavesAsItWas h run.files (image_at t) world second.status
+      LeavesDone h run.files HoldAfter (contents run.old) (contents (done_by contents told_of second run).runs.mid) world asked second.status ⊎ LeavesAsItWas h run.files (image_at t) world second.status
 
   -- The second run did so over the world after so many commands of the first, or after one more.
   pub record DoesNextAfter (run : ClosedRun contents told_of second) (asked : Work) (world : World) (commands : List Command) (count : ℕ) : Type 0 where
@@ -171,7 +172,7 @@ module _ {S T W E : Type 0} {c d : calls.Ghosts Host} {s : start.Ghosts S} {t : 
     pub left : LeavesItsDone contents told_of first one
     pub next : LeavesItsDone contents told_of second two
     pub done :
-        AreClean h two.files.log two.files.db → (world : World) (it : LeavesDone g one.files HoldAfter (contents one.old) (contents one.new) world (done_by contents told_of first one).work first.status)
+        AreClean h two.files.log two.files.db → (world : World) (it : LeavesDone g one.files HoldAfter (contents one.old) (contents (done_by contents told_of first one).runs.mid) world (done_by contents told_of first one).work first.status)
         → ∥ DoesNext two (done_by contents told_of second two).work (world_after world (commands_of_work world (done_by contents told_of first one).work) it.count) ∥₁
     pub kept :
         AreClean h two.files.log two.files.db → (world : World) → IsProject world → HoldsWorld (image_at s) world → LeavesAsItWas g one.files (image_at s) world first.status
@@ -183,7 +184,7 @@ module _ {S T W E : Type 0} {c d : calls.Ghosts Host} {s : start.Ghosts S} {t : 
     pub left : LeavesItsDoneOrMore contents told_of first one
     pub next : LeavesItsDone contents told_of second two
     pub done :
-        AreClean h two.files.log two.files.db → (world : World) (it : LeavesDone g one.files HoldAfterOneMore (contents one.old) (contents one.new) world (done_by_unclosed contents told_of first one).work first.status)
+        AreClean h two.files.log two.files.db → (world : World) (it : LeavesDone g one.files HoldAfterOneMore (contents one.old) (contents (done_by_unclosed contents told_of first one).runs.mid) world (done_by_unclosed contents told_of first one).work first.status)
         → ∥ DoesNextAfter two (done_by contents told_of second two).work world (commands_of_work world (done_by_unclosed contents told_of first one).work) it.count ∥₁
     pub kept :
         AreClean h two.files.log two.files.db → (world : World) → IsProject world → HoldsWorld (image_at s) world → LeavesAsItWas g one.files (image_at s) world first.status

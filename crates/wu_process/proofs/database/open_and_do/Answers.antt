@@ -4,7 +4,7 @@ use Rattle.wu_process.proofs.database.open_and_do.Goals as goal
 
 pub returns-in-Ok : goal.returns-in-Ok
 returns-in-Ok g c =
-    does_opened g.O.Write.contents c.args.database.now c.args.work c.args.out.now c.perform_over-conn.new.out c.perform_over-conn.result.1 c.close_database.result
+    does_opened g.O.Write.contents c.args.database.now c.args.work.now c.args.out.now c.perform_over-conn.new.out c.perform_over-conn.result.1 c.close_database.result
     (record {
       conn = c.in-Ok.conn;
       opened = c.in-Ok.ensures.opened;
@@ -17,8 +17,8 @@ returns-in-Ok g c =
       };
     })
 
-pub returns : goal.returns
-returns g c = record {
+pub returns-in-Err : goal.returns-in-Err
+returns-in-Err g c = record {
   unopened = c.in-Err.ensures.unopened;
   told = ap Err c.unopened-trouble.ensures;
   unwritten = refl;
