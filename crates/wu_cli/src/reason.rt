@@ -14,8 +14,8 @@ pub enum Reason {
     NoFile,
     /// No file lies at the path, but a log lies beside it.
     LogAlone,
-    /// In the place of its log is a link that leads nowhere.
-    LostLog,
+    /// In the place of its log is a link, which an opening does not follow.
+    LinkedLog,
     /// Another program has it open.
     InUse,
     /// It is no database, or one that the store does not read.
@@ -109,9 +109,7 @@ impl Reason {
             Reason::NoFile => "cannot open the database: there is no such file\n",
             Reason::LogAlone =>
                 "cannot open the database: its log is there, and its file is gone\n",
-            Reason::LostLog => {
-                "cannot open the database: its log is a link that leads nowhere\n"
-            }
+            Reason::LinkedLog => "cannot open the database: its log is a link\n",
             Reason::InUse => "cannot open the database: it is in use\n",
             Reason::NoDatabase => {
                 "cannot open the database: it is no database that this program reads\n"

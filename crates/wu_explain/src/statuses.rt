@@ -15,10 +15,10 @@ Done: what was asked for was done, and its answer was written.
         ),
         "1" => Some(
             "Status 1
-F1 to F13: that command was refused, or a check found no sound project; the line
-on standard error says why, and explain F1 to explain F13 what to do, or explain
-checks. The tables are as they were before it. Of a cycle and of a script the
-commands before it are done.
+F1 to F13: that command was refused, or a check found no sound project, or a backup
+or outputs were refused; the line on standard error says why, and explain F1 to
+explain F13 what to do, or explain checks, backups, outputs. The tables are as they
+were before it. Of a cycle and of a script the commands before it are done.
 ",
         ),
         "2" => Some(
@@ -35,9 +35,9 @@ last command was done.
 Where it can't be opened, see that the path is right, that no other process has
 the file, that it may be read and written, and that the disk has room; while
 another process has it, wait or use flock. Where the path has no file but its log
-PATH-wal or its journal is there, where PATH-wal is a link that leads nowhere, where
-the path is that of a log, or where the file is no database, nothing is opened: put
-the database back beside its log.
+PATH-wal or its journal is there, put the database back beside it. Where PATH-wal is
+a link, put the log itself there. Nothing is opened, either, where the path is that
+of a log, or where the file is no database.
 check --db PATH names the cause, where a copy of both files shows it.
 Else open it again by show --view summary: each command that was acknowledged is
 there, and the last one whole or not at all. Then repeat that command. An import

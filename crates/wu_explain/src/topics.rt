@@ -6,7 +6,13 @@ use strsim::osa_distance;
 
 /// The topics in lower case, one a line, without the numbers of faults. A view, a file and a status have their kind before
 /// their name, which is a topic without it too. `tools/docs` holds them against the tables of this crate.
-const TOPICS: &str = "badname
+const TOPICS: &str = "view workunits
+view results
+view hosts
+view archive
+view summary
+view classes
+badname
 badtemplate
 badfile
 nameused
@@ -39,12 +45,6 @@ checks
 backups
 lint
 outputs
-view workunits
-view results
-view hosts
-view archive
-view summary
-view classes
 unknown
 not_unsent
 same_host
@@ -83,6 +83,10 @@ delete
 purge
 cycle
 script
+session
+repeat
+try
+upgrade
 check
 backup
 status 0

@@ -28,9 +28,9 @@ use Rattle.wu_core.specs.declared.fault.Fault.TheVariants.{Memory}
 abbrev pub in_memory : List ℕ
 in_memory = codes ":memory:"
 
--- Whether a path names a log or a journal of a database, and no database.
+-- Whether a path names a log or a journal of a database, or what SQLite keeps in memory of a log, and no database.
 abbrev pub names_log : List ℕ → Bool
-names_log path = ends_with eqb path (codes "-wal") || ends_with eqb path (codes "-journal")
+names_log path = (ends_with eqb path (codes "-wal") || ends_with eqb path (codes "-journal")) || ends_with eqb path (codes "-shm")
 
 -- The trouble of a database that is not opened, because of what lies at its path or beside it, or out of memory.
 abbrev pub IsBar : Trouble → Type 0

@@ -26,13 +26,14 @@ pub fn is_no_file(rt: &HostRuntime, path: &str) -> bool {
     }
 }
 
-/// Returns whether the path names a log or a journal of a database, and no database.
+/// Returns whether the path names a log or a journal of a database, or what SQLite keeps in memory of a log, and no
+/// database.
 pub fn names_log(path: &str) -> bool
     // It does exactly if it ends as SQLite names these.
     ensures { result ≡ names_log path.now }
 {
     let bytes = path.as_bytes();
-    bytes.ends_with(b"-wal") || bytes.ends_with(b"-journal")
+    bytes.ends_with(b"-wal") || bytes.ends_with(b"-journal") || bytes.ends_with(b"-shm")
 }
 
 /// How many bytes a log has at least that holds a page: a header of 32, and a frame of 24 with a page of 512. What a close
@@ -64,16 +65,15 @@ pub fn has_content_beside(rt: &HostRuntime, path: &str) -> Result<bool, AllocErr
     has_log_of(rt, path, 1)
 }
 
-/// Returns whether a link that leads nowhere lies in the place of the log of the database at the path. The log that it
-/// led to may hold commits.
-pub fn has_lost_log(rt: &HostRuntime, path: &str) -> Result<bool, AllocError> {
+/// Returns whether a link lies in the place of the log of the database at the path. An opening does not follow it.
+pub fn has_linked_log(rt: &HostRuntime, path: &str) -> Result<bool, AllocError> {
     let log = format!(in rt.alloc(); "{path}-wal")?;
-    match fs::metadata(rt, log.as_str()) {
-        Err(error) if error.kind() == ErrorKind::NotFound => {
-            Ok(fs::symlink_metadata(rt, log.as_str()).is_ok())
-        }
-        _ => Ok(false),
-    }
+    Ok(fs::symlink_metadata(rt, log.as_str()).is_ok_and(|found| found.is_symlink()))
+}
+
+/// Returns whether a log or a journal with content, or a link in the place of a log, lies beside the path.
+pub fn is_taken_beside(rt: &HostRuntime, path: &str) -> Result<bool, AllocError> {
+    Ok(has_content_beside(rt, path)? || has_linked_log(rt, path)?)
 }
 
 /// Returns whether these first bytes of a file may be what a stop left of a new database: its header after a first byte
@@ -124,13 +124,13 @@ pub fn has_foreign_log(rt: &HostRuntime, path: &str) -> Result<bool, Fault>
     }
 }
 
-/// Returns whether what lies at a path is no file, is a file of something else, or has such a file, or a link that leads
-/// nowhere, in the place of its log. The only fault is `Memory`.
+/// Returns whether what lies at a path is no file, is a file of something else, or has such a file, or a link, in the
+/// place of its log. The only fault is `Memory`.
 fn is_barred_at(rt: &HostRuntime, path: &str) -> Result<bool, Fault>
     // The only fault is `Memory`.
     ensures { IfErr result (λ fault. fault ≡ Memory) }
 {
-    if is_no_file(rt, path) || has_foreign_log(rt, path)? || has_lost_log(rt, path)? {
+    if is_no_file(rt, path) || has_foreign_log(rt, path)? || has_linked_log(rt, path)? {
         return Ok(true);
     }
     Ok(!has_log(rt, path)? && is_foreign(rt, path)?)
@@ -139,8 +139,8 @@ fn is_barred_at(rt: &HostRuntime, path: &str) -> Result<bool, Fault>
 /// Refuses a database that must not be opened, because the opening would destroy or make files that are not its own.
 ///
 /// So it is where the path names a log, and where a log or a journal has lost its database. So it is, too, where no file
-/// lies at the path, a file without a log that is no database, or something else, or a link that leads nowhere, in the
-/// place of the log. Out of memory is reported as `Memory`.
+/// lies at the path, a file without a log that is no database, or something else, or a link, in the place of the log. Out
+/// of memory is reported as `Memory`.
 pub fn bar(rt: &HostRuntime, path: &str) -> Result<(), Trouble>
     // A refusal is reported as a database that cannot be opened, or as out of memory.
     ensures { IfErr result IsBar }
@@ -151,7 +151,7 @@ pub fn bar(rt: &HostRuntime, path: &str) -> Result<(), Trouble>
             Fault::Memory,
         )),
         // A log without a page is kept too: it was beside a database that may be put back.
-        Err(_) => has_content_beside(rt, path)? || has_lost_log(rt, path)?,
+        Err(_) => is_taken_beside(rt, path)?,
     };
     if is_barred || names_log(path) {
         return Err(Trouble::Unopened);

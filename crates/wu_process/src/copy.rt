@@ -4,7 +4,7 @@ ghost use Rattle.std.specs.Prelude.{◌≡◌, IfErr, IfOk};
 ghost use Rattle.wu_cli.specs.declared.reason.Reason.TheVariants.{Memory as WantsMemory};
 ghost use Rattle.wu_process.specs.Copies.{AreCopiedFrom, AreCopiesOf, IsCopyOf};
 
-use crate::beside::{has_content_beside, has_foreign_log, has_log, has_lost_log, is_foreign};
+use crate::beside::{has_content_beside, has_foreign_log, has_linked_log, has_log, is_foreign};
 use crate::header::refuse_other_kind;
 use sqlite::{FileFrom, Files};
 use sqlite_disk::{Disk, Memory, Wary};
@@ -126,21 +126,22 @@ fn read_at_once<'a>(
 
 /// Returns why a path leads to no file: where its log is there, the database has gone without it.
 fn why_no_file(rt: &HostRuntime, path: &str, error: &io::Error) -> Reason {
-    let (Ok(is_left), Ok(is_lost)) = (has_content_beside(rt, path), has_lost_log(rt, path)) else {
+    let (Ok(is_left), Ok(is_linked)) = (has_content_beside(rt, path), has_linked_log(rt, path))
+    else {
         return Reason::Memory;
     };
     match error.kind() {
         ErrorKind::NotFound if is_left => Reason::LogAlone,
-        ErrorKind::NotFound if is_lost => Reason::LostLog,
+        ErrorKind::NotFound if is_linked => Reason::LinkedLog,
         _ => Reason::of_file(error),
     }
 }
 
 /// Refuses a file without a log that begins as no database does, before more of it is read, and one with something else,
-/// or a link that leads nowhere, in the place of its log.
+/// or a link, in the place of its log.
 fn refuse_foreign(rt: &HostRuntime, path: &str) -> Result<(), Reason> {
-    if has_lost_log(rt, path).map_err(|_| Reason::Memory)? {
-        return Err(Reason::LostLog);
+    if has_linked_log(rt, path).map_err(|_| Reason::Memory)? {
+        return Err(Reason::LinkedLog);
     }
     if has_foreign_log(rt, path).map_err(|_| Reason::Memory)? {
         return Err(Reason::Damaged);

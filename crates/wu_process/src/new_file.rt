@@ -4,7 +4,7 @@ ghost use Rattle.std.specs.Prelude.{◌≡◌, false, IfOk};
 ghost use Rattle.wu_process.specs.Backups.{may_become};
 ghost use Rattle.wu_process.specs.Opening.{names_log};
 
-use crate::beside::{has_content_beside, names_log};
+use crate::beside::{is_taken_beside, names_log};
 use crate::files::HostFiles;
 use std::fs::{self, File};
 use std::io::{self, ErrorKind, Write};
@@ -23,7 +23,8 @@ pub trait MakeFile {
         ensures { IfOk result (λ _. makes self.now path.now bytes.now) };
 }
 
-/// Refuses the path of a new database where something lies, which names a log, or beside which a log lies.
+/// Refuses the path of a new database where something lies, which names a log, or beside which a log or a link in its
+/// place lies.
 pub fn refuse_path(rt: &HostRuntime, path: &str) -> Result<(), Unmade>
     // A path that is not refused names no log.
     ensures { IfOk result (λ _. names_log path.now ≡ false) }
@@ -36,7 +37,7 @@ pub fn refuse_path(rt: &HostRuntime, path: &str) -> Result<(), Unmade>
         Err(error) if error.kind() == ErrorKind::NotFound => {}
         Err(error) => return Err(Unmade::of(&error)),
     }
-    match has_content_beside(rt, path) {
+    match is_taken_beside(rt, path) {
         Ok(true) => Err(Unmade::LogBeside),
         Ok(false) => Ok(()),
         Err(_) => Err(Unmade::Memory),

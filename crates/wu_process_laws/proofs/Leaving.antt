@@ -133,7 +133,7 @@ refusal_told (refusal.Fault f) none = fault_told f none
 reason_told : (r : Reason) → reason_status r ≡ 0 → ⊥
 reason_told reason.NoFile none = absurd (omega (arith, none))
 reason_told reason.LogAlone none = absurd (omega (arith, none))
-reason_told reason.LostLog none = absurd (omega (arith, none))
+reason_told reason.LinkedLog none = absurd (omega (arith, none))
 reason_told reason.InUse none = absurd (omega (arith, none))
 reason_told reason.NoDatabase none = absurd (omega (arith, none))
 reason_told reason.OtherKind none = absurd (omega (arith, none))
