@@ -6,5 +6,4 @@ mod OrderLemmas
 mod ParseLemmas
 mod ReadLemmas
 mod TableLemmas
-mod StepLemmas
 mod ScriptLemmas

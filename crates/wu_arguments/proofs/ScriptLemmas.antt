@@ -3,13 +3,12 @@ use Rattle.std.proofs.Common.{◌≡◌, ◌∙◌, ℕ, List, [], ◌∷◌, �
 use Rattle.std.specs.List.{AllZip}
 use Rattle.wu_feed.specs.declared.script.ScriptLine.{ScriptLine}
 use Rattle.wu_arguments.specs.Scripts.{export_asked}
-use Rattle.wu_arguments.specs.Steps.{AskFor, AsksExport, GivesStep, IsBadAfter, Takes}
+use Rattle.wu_arguments.specs.Steps.{AskFor, AsksExport, AsksStep, GivesStep, IsBadAfter, Takes}
 use Rattle.wu_arguments.specs.declared.order.Export.{Export}
 use Rattle.wu_arguments.specs.declared.refusal.Outsider.TheVariants as outsider
 use Rattle.wu_arguments.specs.declared.refusal.Refusal.{Refusal}
 use Rattle.wu_arguments.specs.declared.refusal.Refusal.TheVariants as refusal
 use Rattle.wu_arguments.specs.declared.step.Step.{Step}
-use Rattle.wu_arguments.proofs.StepLemmas.{steps_more, steps_none}
 
 -- ---- a refusal that asks for an export
 
@@ -63,7 +62,7 @@ module _ (gives : List ℕ → ℕ → Option (List ℕ) → Type 0) (db : List 
     front = [];
     behind = [];
     order = refl;
-    each_step = steps_none gives db;
+    each_step = tt;
     each_export = tt;
   }
 
@@ -77,7 +76,7 @@ module _ (gives : List ℕ → ℕ → Option (List ℕ) → Type 0) (db : List 
         front = asks.front ++ line ∷ [];
         behind = [];
         order = ap (λ l. l ++ line ∷ []) order ∙ sym (append-nil (asks.front ++ line ∷ []));
-        each_step = steps_more gives db asks.front steps line step asks.each_step is;
+        each_step = zip_more (AsksStep gives db) asks.front steps line step asks.each_step is;
         each_export = subst (λ l. AllZip (AsksExport gives db) [] l) (sym none) tt;
       }
 

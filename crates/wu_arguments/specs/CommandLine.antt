@@ -11,7 +11,7 @@ use Rattle.wu_core.specs.declared.import.ImportKind.TheVariants as kind
 use Rattle.wu_rules.specs.declared.due.Pass.{Pass as PassKind}
 use Rattle.wu_rules.specs.declared.due.Pass.TheVariants as pass
 use Rattle.wu_arguments.specs.declared.option.LineOption.{LineOption}
-use Rattle.wu_arguments.specs.declared.option.LineOption.TheVariants.{Database, Checked, To, Folder, Only, Name, Imported, Jobs, Template, File, Now, Limit, MinAge, Workunit, View, Topic, Detail, FaultDetail, FaultCause, Kind, Linted}
+use Rattle.wu_arguments.specs.declared.option.LineOption.TheVariants.{Database, Checked, To, Folder, Only, Name, Imported, Jobs, Template, Sends, Reports, Classes, Commands, Now, Limit, MinAge, Workunit, View, Topic, Detail, FaultDetail, FaultCause, Further, Last, Kind, Linted}
 use Rattle.wu_arguments.specs.declared.option.OptionValue.{OptionValue}
 use Rattle.wu_arguments.specs.declared.option.OptionValue.TheVariants.{Text, TextIfAny, Number, Word}
 use Rattle.wu_arguments.specs.declared.subcommand.Subcommand.{Subcommand}
@@ -28,7 +28,10 @@ option_name Name = codes "name"
 option_name Imported = codes "name"
 option_name Jobs = codes "jobs"
 option_name Template = codes "template"
-option_name File = codes "file"
+option_name Sends = codes "file"
+option_name Reports = codes "file"
+option_name Classes = codes "file"
+option_name Commands = codes "file"
 option_name Now = codes "now"
 option_name Limit = codes "limit"
 option_name MinAge = codes "min-age"
@@ -38,6 +41,8 @@ option_name Topic = codes "topic"
 option_name Detail = codes "which"
 option_name FaultDetail = codes "detail"
 option_name FaultCause = codes "cause"
+option_name Further = codes "more"
+option_name Last = codes "last"
 option_name Kind = codes "kind"
 option_name Linted = codes "file"
 
@@ -54,6 +59,8 @@ value_of_option Topic = Word
 value_of_option Detail = Word
 value_of_option FaultDetail = Word
 value_of_option FaultCause = Word
+value_of_option Further = Word
+value_of_option Last = Word
 value_of_option _ = Text
 
 abbrev pub is_required_value : OptionValue → Bool
@@ -68,7 +75,9 @@ is_required option = is_required_value (value_of_option option)
 -- The option that names the file of an import.
 abbrev pub file_option : ImportKind → LineOption
 file_option kind.Batch = Jobs
-file_option _ = File
+file_option kind.Sent = Sends
+file_option kind.Reported = Reports
+file_option kind.Classes = Classes
 
 -- Whether a pass takes a moment, and whether it takes a least age.
 abbrev pub takes_moment : PassKind → Bool
@@ -125,13 +134,13 @@ options_of Show = Database ∷ View ∷ []
 options_of Imports = Database ∷ Imported ∷ []
 options_of Status = Database ∷ Now ∷ []
 options_of Upgrade = Database ∷ []
-options_of Script = Database ∷ File ∷ []
+options_of Script = Database ∷ Commands ∷ []
 options_of Session = Database ∷ []
 options_of Check = Checked ∷ []
 options_of Lint = Kind ∷ Linted ∷ []
 options_of Backup = Checked ∷ To ∷ []
 options_of Outputs = Checked ∷ Folder ∷ Only ∷ []
-options_of Explain = Topic ∷ Detail ∷ FaultDetail ∷ FaultCause ∷ []
+options_of Explain = Topic ∷ Detail ∷ FaultDetail ∷ FaultCause ∷ Further ∷ Last ∷ []
 
 abbrev pub all_subcommands : List Subcommand
 all_subcommands =

@@ -95,7 +95,7 @@ IsExport found asked (export.Outputs files) =
 abbrev pub IsOrder : List Row → Subcommand → Order → Type 0
 IsOrder found asked (order.Line line) = IsTextIn found option.Database line.db × HasValues found asked line.asking
 IsOrder found asked (order.Script script) =
-    (asked ≡ subcommand.Script) × IsTextIn found option.Database script.db × IsTextIn found option.File script.file
+    (asked ≡ subcommand.Script) × IsTextIn found option.Database script.db × IsTextIn found option.Commands script.file
 IsOrder found asked (order.Session path) = (asked ≡ subcommand.Session) × IsTextIn found option.Database path
 IsOrder found asked (order.Check path) = (asked ≡ subcommand.Check) × IsTextIn found option.Checked path
 IsOrder found asked (order.Export it) = IsTextIn found option.Checked it.db × IsExport found asked it.export

@@ -24,6 +24,8 @@ pub enum Action {
     Commands(Rows<Command>),
     /// A view is looked at.
     Look(View),
+    /// Nothing is done: a name, a moment or a file of a tried line has this fault.
+    Refused(Fault),
 }
 
 // It is written out, so that a caller does not prove again how each part is dropped.
@@ -32,6 +34,7 @@ impl Drop for Action {
         match self {
             Action::Commands(_commands) => {}
             Action::Look(_view) => {}
+            Action::Refused(_fault) => {}
         }
     }
 }

@@ -30,7 +30,7 @@ pub use reading::{read_up_to, text_of_script, unread};
 pub use refusal::{Outsider, Refusal};
 pub use script::Mode;
 pub use status::{UNOPENED, exit_status, fault_status};
-pub use step::{BadLine, LineFault, Script, Step, script_of_lines, steps_of};
+pub use step::{BadLine, LineFault, Script, Step, script_of_lines};
 pub use subcommand::{Subcommand, SubcommandForm};
 pub use usage::Usage;
 pub use word::Word;

@@ -62,8 +62,14 @@ pub enum LineOption {
     Jobs,
     /// A file with the parameters of a batch's jobs.
     Template,
-    /// A file of sends, of reports, of classes or of commands.
-    File,
+    /// A file of sends.
+    Sends,
+    /// A file of reports.
+    Reports,
+    /// A file of hosts' classes.
+    Classes,
+    /// A file of commands.
+    Commands,
     /// The moment of a pass.
     Now,
     /// How many workunits a pass changes at most.
@@ -82,6 +88,10 @@ pub enum LineOption {
     FaultDetail,
     /// The cause that a fault that is explained says last.
     FaultCause,
+    /// The word after that, where the fault stands after its line or its status. It is not looked at.
+    Further,
+    /// The last word of such a fault. It is not looked at.
+    Last,
     /// What a file is for.
     Kind,
     /// A file that is read and not imported.
@@ -151,11 +161,29 @@ impl LineOption {
                 value_name: "FILE",
                 help: "TOML file of the jobs' parameters, at most 65,536 bytes; each parameter that is absent has its default",
             },
-            LineOption::File => OptionForm {
+            LineOption::Sends => OptionForm {
                 name: "file",
                 value: OptionValue::Text,
                 value_name: "FILE",
-                help: "CSV file with the header result,host,moment of sends, result,host,moment,status,output of reports, or host,class of classes, at most 1,000 rows and 1,048,576 bytes; of a script a command a line, without the program's name and without --db",
+                help: "CSV file of sends with the header result,host,moment; at most 1,000 rows and 1,048,576 bytes",
+            },
+            LineOption::Reports => OptionForm {
+                name: "file",
+                value: OptionValue::Text,
+                value_name: "FILE",
+                help: "CSV file of reports with the header result,host,moment,status,output; at most 1,000 rows and 1,048,576 bytes",
+            },
+            LineOption::Classes => OptionForm {
+                name: "file",
+                value: OptionValue::Text,
+                value_name: "FILE",
+                help: "CSV file of classes with the header host,class; at most 1,000 rows and 1,048,576 bytes",
+            },
+            LineOption::Commands => OptionForm {
+                name: "file",
+                value: OptionValue::Text,
+                value_name: "FILE",
+                help: "Text file of a command a line, without the program's name and without --db; at most 1,000 lines and 1,048,576 bytes",
             },
             LineOption::Now => OptionForm {
                 name: "now",
@@ -210,6 +238,18 @@ impl LineOption {
                 value: OptionValue::Word,
                 value_name: "CAUSE",
                 help: "Of a fault, the last word as it is printed",
+            },
+            LineOption::Further => OptionForm {
+                name: "more",
+                value: OptionValue::Word,
+                value_name: "MORE",
+                help: "Of a fault after its line or its status, the next word",
+            },
+            LineOption::Last => OptionForm {
+                name: "last",
+                value: OptionValue::Word,
+                value_name: "LAST",
+                help: "Of such a fault, the last word",
             },
             LineOption::Kind => OptionForm {
                 name: "kind",

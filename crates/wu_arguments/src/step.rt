@@ -2,7 +2,7 @@
 
 ghost use Rattle.std.specs.Prelude.{◌≡◌};
 ghost use Rattle.wu_arguments.specs.Statuses.{refusal_status};
-ghost use Rattle.wu_arguments.specs.Steps.{GivesScript, GivesStep, GivesSteps, lacks_memory, Takes};
+ghost use Rattle.wu_arguments.specs.Steps.{asked_by, GivesScript, GivesStep, Takes};
 
 use crate::action::{Action, read_and_prepare};
 use crate::files::ReadFile;
@@ -104,13 +104,16 @@ pub struct LineFault {
     pub fault: Fault,
 }
 
-/// Makes the bad line of this number, for which memory ran out.
-fn lacks_memory(number: u64) -> BadLine
-    ensures { result ≡ lacks_memory number }
+/// Returns what a line asks for that is done in this way. A fault of a tried line waits until the line is done, but for
+/// out of memory.
+fn asked_by(mode: Mode, asked: Result<Action, Fault>) -> Result<Action, Fault>
+    ensures { result ≡ asked_by mode asked }
 {
-    BadLine {
-        number,
-        why: Refusal::Fault(Fault::Memory),
+    match (mode, asked) {
+        (_, Ok(action)) => Ok(action),
+        (_, Err(Fault::Memory)) => Err(Fault::Memory),
+        (Mode::Tried, Err(fault)) => Ok(Action::Refused(fault)),
+        (_, Err(fault)) => Err(fault),
     }
 }
 
@@ -127,44 +130,12 @@ fn step_of<F: ReadFile>(
     let words = words?;
     let mode = mode_of(words.as_slice());
     let asked = line_of_all(alloc, db, words, mode)?;
-    let action = read_and_prepare(alloc, &asked, files)?;
+    let action = asked_by(mode, read_and_prepare(alloc, &asked, files))?;
     Ok(Step {
         number,
         mode,
         action,
     })
-}
-
-/// Returns what the lines of a script ask of the project in a database, in their order, or the first of them that
-/// cannot be run.
-///
-/// The files of a line are read only if the lines before it can be run. A line is the command line of its words,
-/// followed by `--db` and this database. Where the first word is `repeat` or `try` it is the line of the others. What
-/// stands after `repeat` has to be a pass.
-pub fn steps_of<F: ReadFile>(
-    alloc: Global,
-    db: &str,
-    lines: Rows<ScriptLine>,
-    files: &F,
-) -> Result<Rows<Step>, BadLine>
-    // There is a step for each line, in order and with its number; else the first line that cannot
-    // be run is reported. Out of memory is reported with the number of a line that can be run,
-    // after lines that can.
-    ensures { GivesSteps (F.ReadFile.gives files.now) db.now lines result }
-{
-    let mut steps = Vec::new(alloc);
-    for line in lines.into_vec() {
-        let number = line.number;
-        let step = match step_of(alloc, db, line, files) {
-            Ok(step) => step,
-            Err(why) => return Err(BadLine { number, why }),
-        };
-        match steps.push(step) {
-            Ok(()) => {}
-            Err(_) => return Err(lacks_memory(number)),
-        }
-    }
-    Ok(Rows::from_vec(steps))
 }
 
 /// Adds what a line asks for to what the lines before it ask for: a step, or an export. After an export a step is
@@ -188,7 +159,10 @@ fn take(
 /// Returns what the lines of a script ask for: the steps over the project in a database, and then the exports with which
 /// the script ends; or the first line that cannot be run.
 ///
-/// It is as `steps_of`, but for the last lines: these may ask for exports. Any other line after an export is refused.
+/// The files of a line are read only if the lines before it can be run. A line is the command line of its words,
+/// followed by `--db` and this database. Where the first word is `repeat` or `try` it is the line of the others. What
+/// stands after `repeat` has to be a pass. The last lines may ask for exports; any other line after an export is
+/// refused.
 pub fn script_of_lines<F: ReadFile>(
     alloc: Global,
     db: &str,

@@ -25,7 +25,9 @@ fn file_option(kind: ImportKind) -> LineOption
 {
     match kind {
         ImportKind::Batch => LineOption::Jobs,
-        _ => LineOption::File,
+        ImportKind::Sent => LineOption::Sends,
+        ImportKind::Reported => LineOption::Reports,
+        ImportKind::Classes => LineOption::Classes,
     }
 }
 
@@ -170,7 +172,7 @@ fn script(alloc: Global, found: &ArgMatches<'_>) -> Result<Order, Usage>
 {
     Ok(Order::Script(ScriptFile {
         db: text(alloc, found, LineOption::Database)?,
-        file: text(alloc, found, LineOption::File)?,
+        file: text(alloc, found, LineOption::Commands)?,
     }))
 }
 

@@ -12,11 +12,12 @@ use Rattle.wu_passes.proofs.SessionLemmas.{over_shows}
 use Rattle.wu_passes.specs.Projects.{has_ended, IsOver, IsSessionOpen, state_of}
 use Rattle.wu_passes.specs.Standing.{FaultsOnlyGrow}
 use Rattle.wu_arguments.specs.declared.action.Action.{Action}
-use Rattle.wu_arguments.specs.declared.action.Action.TheVariants.{Commands, Look}
+use Rattle.wu_arguments.specs.declared.action.Action.TheVariants.{Commands, Look, Refused}
 use Rattle.wu_arguments.specs.declared.refusal.Refusal.{Refusal}
 use Rattle.wu_arguments.specs.declared.script.Mode.{Mode}
 use Rattle.wu_arguments.specs.declared.script.Mode.TheVariants.{Once, Repeated, Tried}
 use Rattle.wu_arguments.specs.declared.step.LineFault.{LineFault}
+use Rattle.wu_arguments.specs.declared.step.Script.{Script}
 use Rattle.wu_arguments.specs.declared.step.Step.{Step}
 use Rattle.wu_cli.specs.Performing.{Performs}
 use Rattle.wu_cli.specs.Repeating.{commands_of_steps, unrolled}
@@ -66,6 +67,7 @@ module _ {S W : Type 0} {store : Ghosts S} (contents : W → Option (List ℕ)) 
       }
   one_accepts old new out_old out_new (Look view) end sees going still clean world over =
       accepts_none new world (record { is_project = over.is_project; version = sees.version ∙ over.version; goes = sees.goes clean world over.goes })
+  one_accepts old new out_old out_new (Refused why) end kept going still clean world over = accepts_none new world (subst (λ p. IsOver p world) (sym kept.0) over)
 
   by_accepts : (old new : Project S store) (out_old out_new : W) (mode : Mode) (action : Action) (end : Option Fault) → PerformsBy contents mode old new out_old out_new action end
       → IsSessionOpen old → IsSessionOpen new → HasCleanDisk (state_of new) → (world : World) → IsOver old world → Accepts world new
@@ -91,19 +93,19 @@ module _ {S W : Type 0} {store : Ghosts S} (contents : W → Option (List ℕ)) 
       accepts_both until.mid new world front (by_accepts until.mid new until.out_mid out_new until.last.mode until.last.action (Some end.fault) until.ends opened still clean (fold_steps world (map request_of front.commands)) front.over)
 
   module _ (gives : List ℕ → ℕ → Option (List ℕ) → Type 0) (exports : SaysOfExport) (db : List ℕ) where
-    asked_clean : (old new : Project S store) (out_old out_new : W) (asked : Result (List Step) Refusal) (done : Result Bool LineTrouble) → DoesAsked contents gives exports db old new out_old out_new asked done → FaultsOnlyGrow (state_of old) (state_of new)
-    asked_clean old new out_old out_new (Ok steps) done (end, does, is) = script_clean contents old new out_old out_new steps end does.does
-    asked_clean old new out_old out_new (Err why) done (same, does) = subst (λ p. FaultsOnlyGrow (state_of old) (state_of p)) (sym same) (omega arith)
+    asked_clean : (old new : Project S store) (out_old out_new : W) (asked : Result Script Refusal) (done : Result Bool LineTrouble) → DoesAsked contents gives exports db old new out_old out_new asked done → FaultsOnlyGrow (state_of old) (state_of new)
+    asked_clean old new out_old out_new (Ok script) done (end, out_mid, does, then) = script_clean contents old new out_old out_mid script.steps end does.does
+    asked_clean old new out_old out_new (Err why) done (is, same, unwritten) = subst (λ p. FaultsOnlyGrow (state_of old) (state_of p)) (sym same) (omega arith)
 
     heard_clean : (old new : Project S store) (out_old out_new : W) (heard : Result (List ℕ) Refusal) (done : Result Bool LineTrouble) → DoesHeard contents gives exports db old new out_old out_new heard done → FaultsOnlyGrow (state_of old) (state_of new)
     heard_clean old new out_old out_new (Ok text) done (asked, given, does) = asked_clean old new out_old out_new asked done does
     heard_clean old new out_old out_new (Err why) done (is, same, unwritten) = subst (λ p. FaultsOnlyGrow (state_of old) (state_of p)) (sym same) (omega arith)
 
-    asked_accepts : (old new : Project S store) (out_old out_new : W) (asked : Result (List Step) Refusal) (done : Result Bool LineTrouble) → DoesAsked contents gives exports db old new out_old out_new asked done
+    asked_accepts : (old new : Project S store) (out_old out_new : W) (asked : Result Script Refusal) (done : Result Bool LineTrouble) → DoesAsked contents gives exports db old new out_old out_new asked done
         → IsSessionOpen old → IsSessionOpen new → HasCleanDisk (state_of new) → (world : World) → IsOver old world → Accepts world new
-    asked_accepts old new out_old out_new (Ok steps) done (end, does, is) going still clean world over =
-        steps_accept old new out_old out_new (unrolled world steps) end (does.does.over going clean world (over_shows old world over)) going still clean world over
-    asked_accepts old new out_old out_new (Err why) done (same, does) going still clean world over =
+    asked_accepts old new out_old out_new (Ok script) done (end, out_mid, does, then) going still clean world over =
+        steps_accept old new out_old out_mid (unrolled world script.steps) end (does.does.over going clean world (over_shows old world over)) going still clean world over
+    asked_accepts old new out_old out_new (Err why) done (is, same, unwritten) going still clean world over =
         subst (λ p. Accepts world p) (sym same) (accepts_none old world over)
 
     heard_accepts : (old new : Project S store) (out_old out_new : W) (heard : Result (List ℕ) Refusal) (done : Result Bool LineTrouble) → DoesHeard contents gives exports db old new out_old out_new heard done

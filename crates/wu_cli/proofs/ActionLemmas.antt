@@ -30,7 +30,7 @@ use Rattle.wu_cli.specs.Performing.{as_result, Performs}
 use Rattle.wu_cli.specs.Repeating.{commands_of_action}
 use Rattle.wu_cli.specs.Scripting.{so_far}
 use Rattle.wu_arguments.specs.declared.action.Action.{Action}
-use Rattle.wu_arguments.specs.declared.action.Action.TheVariants.{Commands, Look}
+use Rattle.wu_arguments.specs.declared.action.Action.TheVariants.{Commands, Look, Refused}
 
 -- ---- the machine over two lists
 
@@ -139,10 +139,12 @@ module _ {S W : Type 0} {store : Ghosts S} (contents : W → Option (List ℕ)) 
     | inl over ↦ absurd (let no = sees.ends going over in cc)
     | inr still ↦ still
   ]
+  one_goes (Refused why) kept going = absurd (let no = kept.2 in cc)
 
   pub one_clean : (action : Action) (end : Option Fault) → Performs contents old new out_old out_new action end → FaultsOnlyGrow (state_of old) (state_of new)
   one_clean (Commands commands) end (run, runs, is) = runs.clean
   one_clean (Look view) end sees = sees.clean
+  one_clean (Refused why) end kept = subst (λ p. FaultsOnlyGrow (state_of old) (state_of p)) (sym kept.0) (omega arith)
 
   shown_none : (older : Option ℕ) → older_version old ≡ older → IfSome older (λ version. RefusesWith contents old new out_old out_new (as_result None) (OldSchema version)) → older_version old ≡ None
   shown_none None is refused = is
@@ -167,6 +169,7 @@ module _ {S W : Type 0} {store : Ghosts S} (contents : W → Option (List ℕ)) 
       )
   one_done (Look view) sees going clean world shows =
       ([], tt, record { is_project = shows.is_project; version = sees.version ∙ shows.version; shows = shows_back (state_of old) (state_of new) world (sees.reads.back clean) shows.shows })
+  one_done (Refused why) kept going clean world shows = absurd (let no = kept.2 in cc)
 
   -- where a stop could leave that world alone, it then leaves the one behind alone
   pub one_over : (action : Action) → Performs contents old new out_old out_new action None
@@ -181,3 +184,4 @@ module _ {S W : Type 0} {store : Ghosts S} (contents : W → Option (List ℕ)) 
         goes = subst (λ cs. GoesOn (state_of new) (world_of world cs)) all (drives.goes (one_goes (Commands commands) (run, runs, end) going));
       }
   one_over (Look view) sees going clean world over = record { is_project = over.is_project; version = sees.version ∙ over.version; goes = sees.goes clean world over.goes }
+  one_over (Refused why) kept going clean world over = absurd (let no = kept.2 in cc)

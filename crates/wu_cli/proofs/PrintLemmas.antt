@@ -26,7 +26,7 @@ use Rattle.wu_drive.specs.Running.{RunsList}
 use Rattle.wu_drive.specs.declared.runs.Run.{Run}
 use Rattle.wu_drive.specs.Writing.{answer_text, answers_text}
 use Rattle.wu_arguments.specs.declared.action.Action.{Action}
-use Rattle.wu_arguments.specs.declared.action.Action.TheVariants.{Commands, Look}
+use Rattle.wu_arguments.specs.declared.action.Action.TheVariants.{Commands, Look, Refused}
 use Rattle.wu_arguments.specs.declared.script.Mode.{Mode}
 use Rattle.wu_arguments.specs.declared.script.Mode.TheVariants.{Once, Repeated, Tried}
 use Rattle.wu_arguments.specs.declared.step.LineFault.{LineFault}
@@ -122,6 +122,8 @@ module _ {S W : Type 0} {store : Ghosts S} (contents : W → Option (List ℕ)) 
       none_or_some : (older : Option ℕ) → (older ≡ None) ⊎ IsSome older
       none_or_some None = inl refl
       none_or_some (Some version) = inr refl
+  one_prints (Refused why) None kept going clean world shows = absurd (let no = kept.2 in cc)
+  one_prints (Refused why) (Some fault) kept going clean world shows = subst (λ o. AppendsFront (contents out_old) (contents o) []) (sym kept.1) (AppendsFront-nothing (contents out_old) [])
 
   -- ---- a tried one
 
@@ -134,6 +136,7 @@ module _ {S W : Type 0} {store : Ghosts S} (contents : W → Option (List ℕ)) 
   accepted_prints (Look view) sees going clean world shows =
       let present = present_none world.version (shown_present contents old new out_old out_new view sees going world shows) in
       subst (λ o. Appends (contents out_old) (contents out_new) (shown_text o (view_text world view))) present (one_prints (Look view) None sees going clean world shows)
+  accepted_prints (Refused why) kept going clean world shows = absurd (let no = kept.2 in cc)
 
   -- it was refused
   pub refused_prints : (action : Action) (fault : Fault) → Performs contents old new out_old out_new action (Some fault) → is_refusal fault ≡ true
@@ -149,6 +152,7 @@ module _ {S W : Type 0} {store : Ghosts S} (contents : W → Option (List ℕ)) 
       let (version, older, told, same, unwritten) = view_refused contents old new out_old out_new view fault sees refused going in
       subst (λ o. Appends (contents out_old) (contents out_new) (shown_text o (view_text world view))) (sym older ∙ shows.version)
       (subst (λ c. Appends (contents out_old) c []) (sym unwritten) (Appends-nil (contents out_old)))
+  refused_prints (Refused why) fault kept refused going clean world shows = subst (λ o. Appends (contents out_old) (contents o) []) (sym kept.1) (Appends-nil (contents out_old))
 
   -- another fault ended it
   ended_prints : (action : Action) (fault : Fault) → Performs contents old new out_old out_new action (Some fault) → IsSessionOpen old → HasCleanDisk (state_of new) → (world : World) → ShowsProject old world
@@ -165,6 +169,7 @@ module _ {S W : Type 0} {store : Ghosts S} (contents : W → Option (List ℕ)) 
           subst (λ c. AppendsFront (contents out_old) c (shown_text (older_version old) (view_text world view)))
           (sym (none_written fault (older_version old) (subst (λ o. IsSome o) (sym is) refl) (sees.refused.older going)))
           (AppendsFront-nothing (contents out_old) (shown_text (older_version old) (view_text world view)))
+  ended_prints (Refused why) fault kept going clean world shows = one_prints (Refused why) (Some fault) kept going clean world shows
 
 module _ {S W : Type 0} {store : Ghosts S} (contents : W → Option (List ℕ)) (old new : Project S store) where
   -- the line of a refusal behind the answers

@@ -12,10 +12,11 @@ use Rattle.wu_machine.specs.declared.command.Answer.{Answer}
 use Rattle.wu_machine.specs.Sessions.{world_of_life}
 use Rattle.wu_passes.specs.declared.project.Project.{Project}
 use Rattle.wu_passes.specs.Projects.{IsOver, IsSessionOpen, has_ended, state_of}
+use Rattle.wu_passes.specs.Standing.{GoesOn}
 use Rattle.wu_passes.proofs.SessionLemmas.{over_shows}
 use Rattle.wu_report.specs.Writing.{AppendsFront}
 use Rattle.wu_arguments.specs.declared.action.Action.{Action}
-use Rattle.wu_arguments.specs.declared.action.Action.TheVariants.{Commands, Look}
+use Rattle.wu_arguments.specs.declared.action.Action.TheVariants.{Commands, Look, Refused}
 use Rattle.wu_arguments.specs.declared.script.Mode.{Mode}
 use Rattle.wu_arguments.specs.declared.script.Mode.TheVariants.{Once, Repeated, Tried}
 use Rattle.wu_arguments.specs.declared.step.LineFault.{LineFault}
@@ -49,16 +50,15 @@ module _ {S W : Type 0} {store : Ghosts S} (contents : W → Option (List ℕ)) 
     [],
     so_far 0,
     false,
-    record {
-      within = omega arith;
-      answered = tt;
-      end = λ fault told. absurd (cc);
-      goes = λ still. sees.goes clean world over.goes;
-      ended = λ ended. absurd (cc);
-      project = over.is_project;
-      cut_project = λ ended cut there. absurd (cc);
-    },
+    all_drives world [] [] (state_of new) tt (sees.goes clean world over.goes) over.is_project,
     (refl, one_prints contents old new out_old out_new (Look view) (Some fault) sees going clean world (over_shows old world over)),
+  )
+  one_tells old new out_old out_new (Refused why) fault kept going clean world over = (
+    [],
+    so_far 0,
+    false,
+    all_drives world [] [] (state_of new) tt (subst (λ p. GoesOn (state_of p) world) (sym kept.0) over.goes) over.is_project,
+    (refl, one_prints contents old new out_old out_new (Refused why) (Some fault) kept going clean world (over_shows old world over)),
   )
 
   -- likewise, where it was done once

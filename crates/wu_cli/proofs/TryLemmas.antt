@@ -29,7 +29,7 @@ use Rattle.wu_passes.proofs.SessionLemmas.{over_shows, present_none}
 use Rattle.wu_report.specs.Seeing.{Sees}
 use Rattle.wu_report.specs.Views.{IsViewFault, RefusesWith}
 use Rattle.wu_arguments.specs.declared.action.Action.{Action}
-use Rattle.wu_arguments.specs.declared.action.Action.TheVariants.{Commands, Look}
+use Rattle.wu_arguments.specs.declared.action.Action.TheVariants.{Commands, Look, Refused}
 use Rattle.wu_arguments.specs.declared.script.Mode.{Mode}
 use Rattle.wu_arguments.specs.declared.script.Mode.TheVariants.{Once, Repeated, Tried}
 use Rattle.wu_cli.specs.Performing.{as_result, Performs}
@@ -218,6 +218,7 @@ module _ {S W : Type 0} {store : Ghosts S} (contents : W → Option (List ℕ)) 
     | inl over ↦ absurd (not_ending fault refused (inr (same_error fault Broken (sees.ends going over))))
     | inr still ↦ still
   ]
+  refused_goes (Refused why) fault kept refused going = subst (λ p. IsSessionOpen p) (sym kept.0) going
 
   -- the machine refuses the commands, and those before that are done
   pub refused_at : (commands : List Command) (fault : Fault) (run : Run) → RunsList contents old new out_old out_new commands run → run.end ≡ Some fault → is_refusal fault ≡ true
@@ -252,6 +253,7 @@ module _ {S W : Type 0} {store : Ghosts S} (contents : W → Option (List ℕ)) 
   refused_as (Look view) fault sees refused going clean world shows =
       let (version, older, told, same, unwritten) = view_refused view fault sees refused going in
       ap (λ o. option_map OldSchema o) (sym shows.version ∙ older) ∙ ap (λ f. Some f) (sym told)
+  refused_as (Refused why) fault kept refused going clean world shows = sym kept.2
 
   -- what it did is what the machine accepts
   pub refused_done : (action : Action) (fault : Fault) → Performs contents old new out_old out_new action (Some fault) → is_refusal fault ≡ true
@@ -267,6 +269,7 @@ module _ {S W : Type 0} {store : Ghosts S} (contents : W → Option (List ℕ)) 
   refused_done (Look view) fault sees refused going clean world shows =
       let (version, older, told, same, unwritten) = view_refused view fault sees refused going in
       ([], tt, subst (λ p. ShowsProject p world) (sym same) shows)
+  refused_done (Refused why) fault kept refused going clean world shows = ([], tt, subst (λ p. ShowsProject p world) (sym kept.0) shows)
 
   pub refused_over : (action : Action) (fault : Fault) → Performs contents old new out_old out_new action (Some fault) → is_refusal fault ≡ true
       → IsSessionOpen old → HasCleanDisk (state_of new) → (world : World) → IsOver old world → IsOver new (world_of world (commands_by Tried world action))
@@ -283,6 +286,7 @@ module _ {S W : Type 0} {store : Ghosts S} (contents : W → Option (List ℕ)) 
   refused_over (Look view) fault sees refused going clean world over =
       let (version, older, told, same, unwritten) = view_refused view fault sees refused going in
       subst (λ p. IsOver p world) (sym same) over
+  refused_over (Refused why) fault kept refused going clean world over = subst (λ p. IsOver p world) (sym kept.0) over
 
   -- a refused pass leaves no more to do
   pub refused_full : (action : Action) (fault : Fault) → Performs contents old new out_old out_new action (Some fault) → is_refusal fault ≡ true
@@ -295,6 +299,7 @@ module _ {S W : Type 0} {store : Ghosts S} (contents : W → Option (List ℕ)) 
       sym (ap (λ h. is_at_limit limit h) none ∙ none_at_limit limit)
   refused_full (Commands (command ∷ next ∷ commands)) fault does refused going clean world shows = refl
   refused_full (Look view) fault does refused going clean world shows = refl
+  refused_full (Refused why) fault kept refused going clean world shows = refl
 
   -- ---- an action that was not refused
 
@@ -308,6 +313,7 @@ module _ {S W : Type 0} {store : Ghosts S} (contents : W → Option (List ℕ)) 
   all_accepted (Look view) sees going clean world shows =
       let present = shown_present contents old new out_old out_new view sees going world shows in
       (refl, ap (λ o. option_map OldSchema o) (sym (present_none world.version present)))
+  all_accepted (Refused why) kept going clean world shows = absurd (let no = kept.2 in cc)
 
 -- ---- an action that is done in one of the ways
 

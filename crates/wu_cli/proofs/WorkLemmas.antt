@@ -14,7 +14,7 @@ use Rattle.wu_passes.proofs.SessionLemmas.{over_shows}
 use Rattle.wu_passes.specs.Projects.{IsOver, IsSessionOpen, has_ended, ShowsProject, state_of}
 use Rattle.wu_passes.specs.Standing.{GoesOn, FaultsOnlyGrow}
 use Rattle.wu_arguments.specs.declared.action.Action.{Action}
-use Rattle.wu_arguments.specs.declared.action.Action.TheVariants.{Commands, Look}
+use Rattle.wu_arguments.specs.declared.action.Action.TheVariants.{Commands, Look, Refused}
 use Rattle.wu_arguments.specs.declared.step.LineFault.{LineFault}
 use Rattle.wu_report.specs.Writing.{WritesTo}
 use Rattle.wu_cli.specs.Performing.{Performs}
@@ -25,7 +25,7 @@ use Rattle.wu_cli.specs.declared.trouble.Trouble.{Trouble}
 use Rattle.wu_cli.specs.declared.work.Work.{Work}
 use Rattle.wu_cli.specs.declared.work.Work.TheVariants as work
 use Rattle.wu_cli.proofs.PrintLemmas.{one_prints, script_prints}
-use Rattle.wu_cli.proofs.ActionLemmas.{one_clean}
+use Rattle.wu_cli.proofs.ActionLemmas.{all_drives, one_clean}
 use Rattle.wu_cli.proofs.ScriptLemmas.{script_clean}
 use Rattle.wu_cli.proofs.TellingLemmas.{drives_script}
 
@@ -71,15 +71,14 @@ module _ {S W : Type 0} {store : Ghosts S} (contents : W → Option (List ℕ)) 
     count = 0;
     answers = [];
     is_cut = false;
-    drives = record {
-      within = omega arith;
-      answered = tt;
-      end = λ fault told. absurd (cc);
-      goes = λ still. sees.goes clean world over.goes;
-      ended = λ ended. absurd (cc);
-      project = over.is_project;
-      cut_project = λ ended cut there. absurd (cc);
-    };
+    drives = all_drives world [] [] (state_of new) tt (sees.goes clean world over.goes) over.is_project;
+    whole = line_whole end _ (λ none. refl);
+  }
+  line_works (Refused why) end kept going clean world over = record {
+    count = 0;
+    answers = [];
+    is_cut = false;
+    drives = all_drives world [] [] (state_of new) tt (subst (λ p. GoesOn (state_of p) world) (sym kept.0) over.goes) over.is_project;
     whole = line_whole end _ (λ none. refl);
   }
 

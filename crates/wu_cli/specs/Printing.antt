@@ -17,7 +17,7 @@ use Rattle.wu_report.specs.Texts.{view_text}
 use Rattle.wu_report.specs.Writing.{WritesTo}
 use Rattle.wu_drive.specs.Texts.{reply_text}
 use Rattle.wu_arguments.specs.declared.action.Action.{Action}
-use Rattle.wu_arguments.specs.declared.action.Action.TheVariants.{Commands, Look}
+use Rattle.wu_arguments.specs.declared.action.Action.TheVariants.{Commands, Look, Refused}
 use Rattle.wu_arguments.specs.declared.script.Mode.{Mode}
 use Rattle.wu_arguments.specs.declared.script.Mode.TheVariants.{Once, Repeated, Tried}
 use Rattle.wu_arguments.specs.declared.step.LineFault.{LineFault}
@@ -46,6 +46,7 @@ printed_replies world (command ∷ commands) =
 abbrev pub printed_action : World → Action → List ℕ
 printed_action world (Commands commands) = printed_replies world commands
 printed_action world (Look view) = view_text world view
+printed_action world (Refused fault) = []
 
 -- What is shown of a view: nothing over an older version.
 abbrev pub shown_text : Option ℕ → List ℕ → List ℕ
@@ -56,6 +57,7 @@ shown_text (Some version) text = []
 abbrev pub printed_accepted : World → Action → List ℕ
 printed_accepted world (Commands commands) = printed_replies world (accepted world commands)
 printed_accepted world (Look view) = shown_text (older_than_present world.version) (view_text world view)
+printed_accepted world (Refused fault) = []
 
 -- What an action prints that is done in this way: of a tried one, the line of its refusal too.
 abbrev pub printed_by : Mode → World → Action → List ℕ

@@ -7,7 +7,7 @@ use Rattle.wu_machine.specs.Commands.{request_of}
 use Rattle.wu_machine.specs.Machine.{fold_steps}
 use Rattle.wu_machine.specs.Requests.{AskPass, Request}
 use Rattle.wu_arguments.specs.declared.action.Action.{Action}
-use Rattle.wu_arguments.specs.declared.action.Action.TheVariants.{Commands, Look}
+use Rattle.wu_arguments.specs.declared.action.Action.TheVariants.{Commands, Look, Refused}
 use Rattle.wu_arguments.specs.declared.script.Mode.{Mode}
 use Rattle.wu_arguments.specs.declared.script.Mode.TheVariants.{Once, Repeated, Tried}
 use Rattle.wu_arguments.specs.declared.step.Step.{Step}
@@ -19,6 +19,7 @@ use Rattle.wu_cli.specs.declared.repeating.TheConstants.{MOST_ROUNDS}
 abbrev pub commands_of_action : Action → List Command
 commands_of_action (Commands commands) = commands
 commands_of_action (Look view) = []
+commands_of_action (Refused fault) = []
 
 -- The commands of an action that is done in this way: of a tried one, those that the machine accepts.
 abbrev pub commands_by : Mode → World → Action → List Command
@@ -64,6 +65,7 @@ fill_limit _ handled = false
 abbrev pub is_full : World → Action → Bool
 is_full world (Commands commands) = fill_limit commands (last_handled world commands)
 is_full world (Look view) = false
+is_full world (Refused fault) = false
 
 -- ---- how often
 

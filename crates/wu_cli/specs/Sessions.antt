@@ -1,5 +1,5 @@
 -- A session: lines that come one after another, what is done for each, and what goes out.
-use Rattle.std.specs.Prelude.{◌≡◌, ◌⊎◌, ℕ, Bool, true, false, List, [], ◌∷◌, ◌++◌, codes, if◌then◌else◌, is_some, map, slice_get, unwrap_or, IsOkUnless, Option, Some, None, Result, Ok, Err}
+use Rattle.std.specs.Prelude.{◌≡◌, ◌⊎◌, ℕ, Bool, true, false, List, [], ◌∷◌, ◌++◌, codes, if◌then◌else◌, is_some, map, slice_get, unwrap_or, Option, Some, None, Result, Ok, Err}
 use Rattle.std.specs.Fmt.{decimal}
 use Rattle.std.specs.Io.KnownBytes.{IsAtEnd}
 use Rattle.sqlite.specs.Held.{Held, state}
@@ -21,23 +21,20 @@ use Rattle.wu_passes.specs.Adopting.{Adopts, RefusesAdoption, TellsNew}
 use Rattle.wu_passes.specs.Projects.{connection_of, has_ended, is_new, IsOver, IsSessionOpen, KnowsTables, older_version, state_of}
 use Rattle.wu_report.specs.Texts.{line_end}
 use Rattle.wu_report.specs.Writing.{WritesTo}
-use Rattle.wu_arguments.specs.Lines.{export_place}
-use Rattle.wu_arguments.specs.Scripts.{export_asked}
-use Rattle.wu_arguments.specs.declared.order.Export.{Export}
 use Rattle.wu_arguments.specs.Statuses.{fault_status, refusal_status}
-use Rattle.wu_arguments.specs.Steps.{GivesSteps}
+use Rattle.wu_arguments.specs.Steps.{GivesScript}
 use Rattle.wu_arguments.specs.declared.refusal.Refusal.{Refusal}
 use Rattle.wu_arguments.specs.declared.refusal.Refusal.TheVariants as refusal
 use Rattle.wu_arguments.specs.declared.step.BadLine.{BadLine}
 use Rattle.wu_arguments.specs.declared.step.LineFault.{LineFault}
+use Rattle.wu_arguments.specs.declared.step.Script.{Script}
 use Rattle.wu_arguments.specs.declared.step.Step.{Step}
-use Rattle.wu_cli.specs.Exports.{exported_line, SaysOfExport}
+use Rattle.wu_cli.specs.Exports.{ExportsEach, SaysOfExport}
 use Rattle.wu_cli.specs.Hearing.{Hears, IsUnread}
 use Rattle.wu_cli.specs.Answering.{end_text, is_cut, status_of_done}
 use Rattle.wu_cli.specs.Printing.{PrintsSteps}
 use Rattle.wu_cli.specs.Scripting.{PerformsScript}
 use Rattle.wu_cli.specs.Telling.{DrivesSteps, LengthensBySteps}
-use Rattle.wu_cli.specs.declared.export.Exported.{Exported}
 use Rattle.wu_cli.specs.declared.line_trouble.LineTrouble.{LineTrouble}
 use Rattle.wu_cli.specs.declared.line_trouble.LineTrouble.TheVariants as line
 use Rattle.wu_cli.specs.declared.trouble.Trouble.{Trouble}
@@ -46,22 +43,22 @@ use Rattle.wu_cli.specs.declared.trouble.Trouble.TheVariants as trouble
 -- ---- one line
 
 module _ (gives : List ℕ → ℕ → Option (List ℕ) → Type 0) (db : List ℕ) where
-  -- the steps of the script that the text is by itself, or why it cannot be run
-  abbrev pub StepsOfText : List ℕ → Result (List Step) Refusal → Type 0
-  StepsOfText text (Ok steps) = (lines : List ScriptLine) × (script_of text ≡ Ok lines) × GivesSteps gives db lines (Ok steps)
-  StepsOfText text (Err why) =
+  -- what the script asks for that the text is by itself, or why it cannot be run
+  abbrev pub ScriptOfText : List ℕ → Result Script Refusal → Type 0
+  ScriptOfText text (Ok script) = (lines : List ScriptLine) × (script_of text ≡ Ok lines) × GivesScript gives db lines (Ok script)
+  ScriptOfText text (Err why) =
       ((fault : Fault) × ((fault ≡ Memory) ⊎ (script_of text ≡ Err fault)) × (why ≡ refusal.Fault fault))
-      ⊎ ((lines : List ScriptLine) × (bad : BadLine) × (script_of text ≡ Ok lines) × GivesSteps gives db lines (Err bad) × (why ≡ bad.why))
+      ⊎ ((lines : List ScriptLine) × (bad : BadLine) × (script_of text ≡ Ok lines) × GivesScript gives db lines (Err bad) × (why ≡ bad.why))
 
--- How a line ended whose steps ended so: whether it has a command, or its fault.
-abbrev pub done_of_steps : List Step → Option LineFault → Result Bool LineTrouble
-done_of_steps steps None = Ok (is_some (slice_get steps 0))
-done_of_steps steps (Some end) = Err (line.Refused (refusal.Fault end.fault))
+-- Whether a script asks for anything: it has a step or an export.
+abbrev pub asks : Script → Bool
+asks script = if is_some (slice_get script.steps 0) then true else is_some (slice_get script.exports 0)
 
--- How a line ended whose export was reported so.
-abbrev pub done_of_report : Result (Unit {0}) Fault → Result Bool LineTrouble
-done_of_report (Ok told) = Ok true
-done_of_report (Err fault) = Err (line.Refused (refusal.Fault fault))
+-- How a line ended whose exports ended so: whether it has a command, or why one is not made or not reported.
+abbrev pub done_of_exports : Script → Result (Unit {0}) Trouble → Result Bool LineTrouble
+done_of_exports script (Ok told) = Ok (asks script)
+done_of_exports script (Err (trouble.Fault fault)) = Err (line.Refused (refusal.Fault fault))
+done_of_exports script (Err told) = Err (line.Export told)
 
 module _ {S W : Type 0} {store : Ghosts S} (contents : W → Option (List ℕ)) where
   -- all that is known of the steps of a script
@@ -71,36 +68,29 @@ module _ {S W : Type 0} {store : Ghosts S} (contents : W → Option (List ℕ)) 
     pub lives : LengthensBySteps contents old new out_old out_new steps end
     pub prints : PrintsSteps contents old new out_old out_new steps end
 
-  -- the steps of a line are done, up to the first fault
-  abbrev pub DoesStepsOfText : Project S store → Project S store → W → W → List Step → Result Bool LineTrouble → Type 0
-  DoesStepsOfText old new out_old out_new steps done =
-      (end : Option LineFault) × DoesSteps old new out_old out_new steps end × (done ≡ done_of_steps steps end)
-
 module _ {W : Type 0} (contents : W → Option (List ℕ)) (exports : SaysOfExport) (db : List ℕ) where
-  -- the export is reported with its numbers, or why it is not made is returned, and nothing goes out
-  abbrev pub ReportsMade : Export → W → W → Result Exported Trouble → Result Bool LineTrouble → Type 0
-  ReportsMade export out_old out_new (Ok made) done =
-      (told : Result (Unit {0}) Fault) × WritesTo contents out_old out_new (exported_line (export_place export) made) told × IsOkUnless told Output × (done ≡ done_of_report told)
-  ReportsMade export out_old out_new (Err trouble) done = (done ≡ Err (line.Export trouble)) × (out_new ≡ out_old)
+  -- after steps without a fault the exports are made of the database of the session, and reported; a fault ends the
+  -- line before them
+  abbrev pub ExportsThen : Script → Option LineFault → W → W → Result Bool LineTrouble → Type 0
+  ExportsThen script None out_mid out_new done =
+      (told : Result (Unit {0}) Trouble) × ExportsEach contents exports db script.exports out_mid out_new told × (done ≡ done_of_exports script told)
+  ExportsThen script (Some end) out_mid out_new done = (done ≡ Err (line.Refused (refusal.Fault end.fault))) × (out_new ≡ out_mid)
 
-  -- an export is made of the database of the session, or it is not made
-  abbrev pub Exports : Export → W → W → Result Bool LineTrouble → Type 0
-  Exports export out_old out_new done = (made : Result Exported Trouble) × exports db export made × ReportsMade export out_old out_new made done
-
-  -- the export that a line asks for is made; or the line is refused, and nothing goes out
-  abbrev pub DoesRefused : W → W → Result Export Refusal → Result Bool LineTrouble → Type 0
-  DoesRefused out_old out_new (Ok export) done = Exports export out_old out_new done
-  DoesRefused out_old out_new (Err why) done = (done ≡ Err (line.Refused why)) × (out_new ≡ out_old)
+module _ {S W : Type 0} {store : Ghosts S} (contents : W → Option (List ℕ)) (exports : SaysOfExport) (db : List ℕ) where
+  -- the steps of a line are done up to the first fault, and then its exports are made
+  abbrev pub DoesScript : Project S store → Project S store → W → W → Script → Result Bool LineTrouble → Type 0
+  DoesScript old new out_old out_new script done =
+      (end : Option LineFault) × (out_mid : W) × DoesSteps contents old new out_old out_mid script.steps end × ExportsThen contents exports db script end out_mid out_new done
 
 module _ {S W : Type 0} {store : Ghosts S} (contents : W → Option (List ℕ)) (gives : List ℕ → ℕ → Option (List ℕ) → Type 0) (exports : SaysOfExport) (db : List ℕ) where
-  -- the steps that a text asks for are done; or its export is made, or it cannot be run, and nothing is done
-  abbrev pub DoesAsked : Project S store → Project S store → W → W → Result (List Step) Refusal → Result Bool LineTrouble → Type 0
-  DoesAsked old new out_old out_new (Ok steps) done = DoesStepsOfText contents old new out_old out_new steps done
-  DoesAsked old new out_old out_new (Err why) done = (new ≡ old) × DoesRefused contents exports db out_old out_new (export_asked why) done
+  -- what a text asks for is done; or it cannot be run, and nothing is done
+  abbrev pub DoesAsked : Project S store → Project S store → W → W → Result Script Refusal → Result Bool LineTrouble → Type 0
+  DoesAsked old new out_old out_new (Ok script) done = DoesScript contents exports db old new out_old out_new script done
+  DoesAsked old new out_old out_new (Err why) done = (done ≡ Err (line.Refused why)) × (new ≡ old) × (out_new ≡ out_old)
 
   abbrev pub DoesText : Project S store → Project S store → W → W → List ℕ → Result Bool LineTrouble → Type 0
   DoesText old new out_old out_new text done =
-      (asked : Result (List Step) Refusal) × StepsOfText gives db text asked × DoesAsked old new out_old out_new asked done
+      (asked : Result Script Refusal) × ScriptOfText gives db text asked × DoesAsked old new out_old out_new asked done
 
   -- so for a line that was heard; one that was not is not done
   abbrev pub DoesHeard : Project S store → Project S store → W → W → Result (List ℕ) Refusal → Result Bool LineTrouble → Type 0

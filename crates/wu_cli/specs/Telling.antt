@@ -1,5 +1,5 @@
 -- How many commands of a script were done over a world, and what it printed of them.
-use Rattle.std.specs.Prelude.{◌≡◌, ◌⊎◌, ℕ, ◌+◌, Bool, List, ◌∷◌, ◌++◌, length, take, Option, Some, None}
+use Rattle.std.specs.Prelude.{◌≡◌, ◌⊎◌, ℕ, ◌+◌, Bool, List, [], ◌∷◌, ◌++◌, length, take, Option, Some, None}
 use Rattle.std.specs.Io.KnownBytes.{Appends}
 use Rattle.sqlite.specs.State.{State, HasCleanDisk}
 use Rattle.sqlite_trees.specs.declared.store.Store.{Ghosts}
@@ -15,7 +15,7 @@ use Rattle.wu_passes.specs.Projects.{IsOver, IsSessionOpen, state_of}
 use Rattle.wu_report.specs.Texts.{view_text}
 use Rattle.wu_report.specs.Writing.{AppendsFront}
 use Rattle.wu_arguments.specs.declared.action.Action.{Action}
-use Rattle.wu_arguments.specs.declared.action.Action.TheVariants.{Commands, Look}
+use Rattle.wu_arguments.specs.declared.action.Action.TheVariants.{Commands, Look, Refused}
 use Rattle.wu_arguments.specs.declared.script.Mode.{Mode}
 use Rattle.wu_arguments.specs.declared.script.Mode.TheVariants.{Once, Repeated, Tried}
 use Rattle.wu_arguments.specs.declared.step.LineFault.{LineFault}
@@ -32,6 +32,7 @@ TellsAction before after world (Commands commands) count fault =
     (answers : List Answer) × AnswerAll world (take count commands) answers
     × WritesAnswers before after answers (record { acknowledged = count; end = Some fault })
 TellsAction before after world (Look view) count fault = (count ≡ 0) × AppendsFront before after (view_text world view)
+TellsAction before after world (Refused why) count fault = (count ≡ 0) × AppendsFront before after []
 
 -- So many commands of a tried action were done, all that the machine accepts, and their answers went out. Of the line
 -- of its refusal only a prefix did.

@@ -13,7 +13,7 @@ use Rattle.wu_passes.specs.Adopting.{older_than_present}
 use Rattle.wu_passes.specs.declared.project.Project.{Project}
 use Rattle.wu_report.specs.Writing.{AppendsFront}
 use Rattle.wu_arguments.specs.declared.action.Action.{Action}
-use Rattle.wu_arguments.specs.declared.action.Action.TheVariants.{Commands, Look}
+use Rattle.wu_arguments.specs.declared.action.Action.TheVariants.{Commands, Look, Refused}
 use Rattle.wu_arguments.specs.declared.script.Mode.{Mode}
 use Rattle.wu_arguments.specs.declared.script.Mode.TheVariants.{Once, Repeated, Tried}
 use Rattle.wu_cli.specs.Endings.{fault_line}
@@ -53,10 +53,11 @@ first_refusal world [] = None
 first_refusal world (command ∷ commands) =
     refused_or (reply world (request_of command)) (first_refusal (step world (request_of command)) commands)
 
--- Why an action is refused over a world; a view is, over an older version.
+-- Why an action is refused over a world; a view is, over an older version, and a refused one is over each.
 abbrev pub refusal_of : World → Action → Option Fault
 refusal_of world (Commands commands) = first_refusal world commands
 refusal_of world (Look view) = option_map fault.OldSchema (older_than_present world.version)
+refusal_of world (Refused fault) = Some fault
 
 -- The line that goes out for a refusal.
 abbrev pub refusal_line : Option Fault → List ℕ

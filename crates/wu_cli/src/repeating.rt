@@ -75,6 +75,7 @@ pub fn act<S: Alter, W: Write>(
             Ok(()) => (None, false),
             Err(fault) => (Some(fault), false),
         },
+        Action::Refused(fault) => (Some(*fault), false),
     }
 }
 

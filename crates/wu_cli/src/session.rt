@@ -4,20 +4,21 @@ ghost use Rattle.std.specs.Prelude.{◌≡◌, ℕ, List, Option};
 ghost use Rattle.wu_report.specs.Writing.{WritesTo};
 ghost use Rattle.wu_cli.specs.Hearing.{heard_text, IsUnread};
 ghost use Rattle.wu_cli.specs.Answering.{end_text, is_cut, status_front, status_of_done, undone_line};
-ghost use Rattle.wu_cli.specs.Sessions.{AnswersHeard, DoesHeard, DoesRefused, DoesStepsOfText, DoesText, ends_with, EndsSession, Exports, RunsSession, StepsOfText};
+ghost use Rattle.wu_cli.specs.Sessions.{AnswersHeard, asks, DoesHeard, DoesScript, DoesText, done_of_exports, ends_with, EndsSession, RunsSession, ScriptOfText};
 
-use crate::export::{MakeExport, write_exported};
+use crate::export::{MakeExport, export_each};
 use crate::hearing::{Heard, hear, unreadable};
 use crate::line_trouble::LineTrouble;
 use crate::performing::perform_script;
 use crate::texts::write_line;
+use crate::trouble::Trouble;
 use sqlite::Alter;
 use std::alloc::Global;
 use std::io::{BufRead, Write};
-use wu_arguments::{Export, ReadFile, Refusal, Step, Usage, fault_status, steps_of};
+use wu_arguments::{ReadFile, Refusal, Script, Usage, fault_status, script_of_lines};
 use wu_core::Fault;
 use wu_drive::Project;
-use wu_feed::{Rows, read_script};
+use wu_feed::read_script;
 use wu_report::{Piece, write_pieces};
 
 /// Writes the front of a line that reports why a line was not done, with its status.
@@ -67,69 +68,58 @@ fn write_end<W: Write>(out: &mut W, done: &Result<bool, LineTrouble>) -> Result<
     }
 }
 
-/// Returns what the text of a line asks of a project: the steps of the script that it is by itself.
-fn steps_of_text<F: ReadFile>(
+/// Returns what the text of a line asks for: what the script does that it is by itself.
+fn script_of_text<F: ReadFile>(
     alloc: Global,
     db: &str,
     text: &[u8],
     files: &F,
-) -> Result<Rows<Step>, Refusal>
-    ensures { StepsOfText (F.ReadFile.gives files.now) db.now text.now result }
+) -> Result<Script, Refusal>
+    ensures { ScriptOfText (F.ReadFile.gives files.now) db.now text.now result }
 {
     let lines = read_script(alloc, text)?;
-    match steps_of(alloc, db, lines, files) {
-        Ok(steps) => Ok(steps),
+    match script_of_lines(alloc, db, lines, files) {
+        Ok(script) => Ok(script),
         Err(bad) => Err(bad.into_why()),
     }
 }
 
-/// Does the steps of a line, up to the first fault. Returns whether it has a command.
-fn do_steps<S: Alter, W: Write>(
-    alloc: Global,
-    project: &mut Project<S>,
-    steps: &[Step],
-    out: &mut W,
-) -> Result<bool, LineTrouble>
-    ensures { DoesStepsOfText W.contents project.old project.new out.old out.new steps.now result }
+/// Returns whether a script asks for anything: its line is neither empty nor a comment.
+fn asks(script: &Script) -> bool
+    ensures { result ≡ asks script.now }
 {
-    match perform_script(alloc, project, steps, out).1 {
-        None => Ok(steps.first().is_some()),
-        Some(end) => Err(LineTrouble::Refused(Refusal::Fault(end.fault))),
-    }
+    script.steps.as_slice().first().is_some() || script.exports.as_slice().first().is_some()
 }
 
-/// Makes what a line asks for of a copy of the project, and reports it. Returns that the line has a command.
-fn export_to<F: MakeExport, W: Write>(
-    db: &str,
-    export: &Export,
-    files: &F,
-    out: &mut W,
-) -> Result<bool, LineTrouble>
-    ensures { Exports W.contents (F.MakeExport.exports files.now) db.now export.now
-        out.old out.new result }
+/// Returns how a line ended whose exports ended so: whether it has a command, or why one is not made or not reported.
+fn done_of_exports(script: &Script, told: Result<(), Trouble>) -> Result<bool, LineTrouble>
+    ensures { result ≡ done_of_exports script.now told }
 {
-    match files.export(db, export) {
-        Ok(made) => match write_exported(out, export.place(), made) {
-            Ok(()) => Ok(true),
-            Err(fault) => Err(LineTrouble::Refused(Refusal::Fault(fault))),
-        },
+    match told {
+        Ok(()) => Ok(asks(script)),
+        Err(Trouble::Fault(fault)) => Err(LineTrouble::Refused(Refusal::Fault(fault))),
         Err(trouble) => Err(LineTrouble::Export(trouble)),
     }
 }
 
-/// Makes the export that a line asks for, or returns why the line is refused.
-fn do_refused<F: MakeExport, W: Write>(
+/// Does the steps of a line up to the first fault, and then makes its exports. Returns whether it has a command.
+fn do_script<S: Alter, F: MakeExport, W: Write>(
+    alloc: Global,
+    project: &mut Project<S>,
     db: &str,
-    asked: Result<Export, Refusal>,
+    script: &Script,
     files: &F,
     out: &mut W,
 ) -> Result<bool, LineTrouble>
-    ensures { DoesRefused W.contents (F.MakeExport.exports files.now) db.now
-        out.old out.new asked result }
+    ensures { DoesScript W.contents (F.MakeExport.exports files.now) db.now
+        project.old project.new out.old out.new script.now result }
 {
-    match asked {
-        Ok(export) => export_to(db, &export, files, out),
-        Err(why) => Err(LineTrouble::Refused(why)),
+    match perform_script(alloc, project, script.steps.as_slice(), out).1 {
+        None => {
+            let told = export_each(files, db, script.exports.as_slice(), out);
+            done_of_exports(script, told)
+        }
+        Some(end) => Err(LineTrouble::Refused(Refusal::Fault(end.fault))),
     }
 }
 
@@ -149,10 +139,9 @@ pub fn do_text<S: Alter, F: ReadFile + MakeExport, W: Write>(
         (F.MakeExport.exports files.now) db.now
         project.old project.new out.old out.new text.now result }
 {
-    match steps_of_text(alloc, db, text, files) {
-        Ok(steps) => do_steps(alloc, project, steps.as_slice(), out),
-        // An export is no step of a script.
-        Err(why) => do_refused(db, why.into_export(), files, out),
+    match script_of_text(alloc, db, text, files) {
+        Ok(script) => do_script(alloc, project, db, &script, files, out),
+        Err(why) => Err(LineTrouble::Refused(why)),
     }
 }
 

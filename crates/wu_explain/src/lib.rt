@@ -81,6 +81,27 @@ fn stands_before_fault(first: &str, second: &str) -> bool {
     }
 }
 
+/// Returns whether these words, in lower case, stand before why a row was skipped where it is printed: `row` and its
+/// number with a colon.
+fn stands_before_skip(first: &str, second: &str) -> bool {
+    match (first, second.strip_suffix(':')) {
+        ("row", Some(number)) => number.parse::<u16>().is_ok(),
+        _ => false,
+    }
+}
+
+/// Returns the explanation of why a row was skipped, in any case; `None` if no row is skipped for that.
+fn text_of_skip<'a>(word: &str) -> Option<&'a str>
+    // A text that is returned is not empty.
+    ensures { IfSome result (λ text. 1 ≤ length text.now) }
+{
+    let mut room = [0; MOST_BYTES];
+    match lowered(word, &mut room) {
+        Some(word) => skip_text(word),
+        None => None,
+    }
+}
+
 /// Returns the explanation of the fault of this number and this name, in any case; `None` if there is no such fault.
 fn text_of_fault<'a>(number: &str, name: &str) -> Option<&'a str>
     // A text that is returned is not empty.
@@ -97,11 +118,9 @@ fn text_of_fault<'a>(number: &str, name: &str) -> Option<&'a str>
     }
 }
 
-/// Returns the explanation of a topic: its words, in any case, each empty where there is none. Without a word it is the
-/// list of all topics. A fault may go on with further words, as it is printed. Its number and name may also stand after
-/// `=` and a status, as a session prints them, or after `line` and `NUMBER:`, as they are printed of a script. Returns
-/// `None` if there is no such topic.
-pub fn explanation<'a>(first: &str, second: &str, third: &str, fourth: &str) -> Option<&'a str>
+/// Returns the explanation of a topic of these words, in any case, each empty where there is none; `None` if there is no
+/// such topic.
+fn text_of_topic<'a>(first: &str, second: &str, third: &str, fourth: &str) -> Option<&'a str>
     // A text that is returned is not empty.
     ensures { IfSome result (λ text. 1 ≤ length text.now) }
 {
@@ -119,10 +138,36 @@ pub fn explanation<'a>(first: &str, second: &str, third: &str, fourth: &str) -> 
         (Some(first), Some(second)) => {
             if stands_before_fault(first, second) {
                 text_of_fault(third, fourth)
+            } else if stands_before_skip(first, second) {
+                text_of_skip(third)
             } else {
                 text_of_words(first, second, goes_on)
             }
         }
         _ => None,
     }
+}
+
+/// Returns the text up to its first blank, and what stands after that blank.
+fn first_word(text: &str) -> (&str, &str) {
+    text.split_once(' ').unwrap_or((text, ""))
+}
+
+/// Returns the explanation of a topic: its words, in any case, each empty where there is none. Without a word it is the
+/// list of all topics. The first word may hold all of them, as where they are quoted. A fault may go on with further
+/// words, as it is printed. Its number and name may also stand after `=` and a status, as a session prints them, or
+/// after `line` and `NUMBER:`, as they are printed of a script. Why a row was skipped may stand after `row` and
+/// `NUMBER:`. Returns `None` if there is no such topic.
+pub fn explanation<'a>(first: &str, second: &str, third: &str, fourth: &str) -> Option<&'a str>
+    // A text that is returned is not empty.
+    ensures { IfSome result (λ text. 1 ≤ length text.now) }
+{
+    if !second.is_empty() {
+        return text_of_topic(first, second, third, fourth);
+    }
+    let (first, rest) = first_word(first);
+    let (second, rest) = first_word(rest);
+    let (third, rest) = first_word(rest);
+    let (fourth, _) = first_word(rest);
+    text_of_topic(first, second, third, fourth)
 }

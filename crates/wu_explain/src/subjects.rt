@@ -151,9 +151,8 @@ commands run in one opening up to the first fault; the lines before it are done.
 Behind the word repeat a pass is run until it answers less than its limit, each time
 as a command of its own, and at most a million times:
   repeat transition --now 2026-03-01T12:00:00Z --limit 1000
-Behind the word try a command, a cycle or a view is run, and where the project
-refuses it, with F4 to F6 or F8 to F11, that fault is printed in place of its answer,
-and the script goes on. A name, a file or a moment that cannot be read ends it before:
+Behind the word try a command, a cycle or a view is run, and where it is refused,
+with F1 to F11, that fault is printed in place of its answer, and the script goes on:
   try cancel --workunit job_7
 The last lines may ask for what is made of a copy of the project:
   backup --to FILE

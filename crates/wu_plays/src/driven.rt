@@ -20,6 +20,7 @@ fn commands(alloc: Global, mut action: Action) -> Result<Vec<Command>> {
             Ok(mem::replace(commands, Rows::from_vec(Vec::new(alloc))).into_vec())
         }
         Action::Look(_) => bail!("a view is not driven"),
+        Action::Refused(_) => bail!("a refused line is not driven"),
     }
 }
 

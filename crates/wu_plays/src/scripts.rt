@@ -4,7 +4,9 @@ use anyhow::{Result, bail};
 use sqlite::{Alter, Connection};
 use std::fs;
 use std::io::{self, Write};
-use wu_arguments::{Action, BadLine, Export, Mode, ReadFile, Refusal, Step, steps_of};
+use wu_arguments::{
+    Action, BadLine, Export, Mode, Outsider, ReadFile, Refusal, Script, Step, script_of_lines,
+};
 use wu_cli::{Counts, Exported, KeptCounts, MakeExport, Trouble, serve_over, write_refusal};
 use wu_core::Fault;
 use wu_feed::{Rows, ScriptLine, read_script};
@@ -46,20 +48,26 @@ impl MakeExport for PlayFiles<'_> {
     }
 }
 
-/// Returns the one step of a line, or why the line can't be run.
+/// Returns the one step of a line, or why the line can't be run. An export is refused here.
 fn step_of(rt: &HostRuntime, line: ScriptLine) -> std::result::Result<Option<Step>, BadLine> {
     let number = line.number;
     let why = Refusal::Fault(Fault::Memory);
     let Ok(lines) = Vec::from_array(rt.alloc(), [line]) else {
         return Err(BadLine { number, why });
     };
-    let steps = steps_of(
+    let Script { steps, exports } = script_of_lines(
         rt.alloc(),
         DATABASE,
         Rows::from_vec(lines),
         &PlayFiles { rt },
     )?;
-    Ok(steps.into_vec().pop())
+    match exports.into_vec().pop() {
+        Some(export) => Err(BadLine {
+            number,
+            why: Refusal::Outsider(Outsider::Export(export)),
+        }),
+        None => Ok(steps.into_vec().pop()),
+    }
 }
 
 /// Returns the action of a line of a script, or why it can't be run. A line that is repeated or tried is refused here.
@@ -74,11 +82,16 @@ pub fn action(rt: &HostRuntime, line: ScriptLine) -> std::result::Result<Action,
     }
 }
 
-/// Returns the steps of a script. Fails if a line can't be run.
+/// Returns the steps of a script. Fails if a line can't be run. Exports are left out.
 pub fn steps(rt: &HostRuntime, text: &str) -> Result<Rows<Step>> {
     let lines = read_script(rt.alloc(), text.as_bytes())?;
-    match steps_of(rt.alloc(), DATABASE, lines, &PlayFiles { rt }) {
-        Ok(steps) => Ok(steps),
+    match script_of_lines(rt.alloc(), DATABASE, lines, &PlayFiles { rt }) {
+        Ok(
+            Script {
+                steps,
+                exports: _exports,
+            },
+        ) => Ok(steps),
         Err(bad) => bail!("line {} can't be run", bad.number),
     }
 }

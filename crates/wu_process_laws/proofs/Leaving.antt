@@ -48,7 +48,8 @@ use Rattle.wu_store.specs.StandsFor.{StandsFor}
 use Rattle.wu_stops.proofs.StoppingLemmas.{stands_still}
 use Rattle.wu_schema.proofs.VersionLemmas.{free_lacks}
 use Rattle.wu_arguments.specs.Statuses.{fault_status, refusal_status, usage_status}
-use Rattle.wu_arguments.specs.declared.action.Action.TheVariants.{Commands, Look}
+use Rattle.wu_arguments.specs.declared.action.Action.{Action}
+use Rattle.wu_arguments.specs.declared.action.Action.TheVariants.{Commands, Look, Refused}
 use Rattle.wu_arguments.specs.declared.refusal.Refusal.{Refusal}
 use Rattle.wu_arguments.specs.declared.refusal.Refusal.TheVariants as refusal
 use Rattle.wu_arguments.specs.declared.usage.Usage.{Usage}
@@ -56,13 +57,12 @@ use Rattle.wu_arguments.specs.declared.usage.Usage.TheVariants as usage
 use Rattle.wu_cli.specs.Scripting.{so_far}
 use Rattle.wu_cli.specs.Troubles.{trouble_status}
 use Rattle.wu_cli.specs.Working.{BeginsFrom, commands_of_work, DoesAdopted, DoesNothing, DoesOver, DrivesOver, DrivesWork, line_outcome, RefusesWork}
+use Rattle.wu_cli.specs.Printing.{printed_action}
 use Rattle.wu_cli.proofs.PrintLemmas.{one_prints}
 use Rattle.wu_cli.proofs.ScriptLemmas.{script_clean}
 use Rattle.wu_cli.proofs.TellingLemmas.{drives_script}
 use Rattle.wu_cli.proofs.WorkLemmas.{begins, line_whole, script_whole, work_clean}
 use Rattle.wu_passes.proofs.SessionLemmas.{over_shows}
-use Rattle.wu_machine.specs.declared.view.View.{View}
-use Rattle.wu_report.specs.Texts.{view_text}
 use Rattle.wu_report.specs.Writing.{AppendsFront, WritesTo}
 use Rattle.wu_arguments.specs.declared.step.Script.{Script}
 use Rattle.std.proofs.Math.Seq.{take-length}
@@ -255,18 +255,21 @@ module _ {D W : Type 0} {g : Ghosts D} (contents : W → Option (List ℕ)) (con
         (end, driven.told),
       )
 
-  -- a view was shown
-  view_told : (view : View) (does : DoesAdopted over_files contents conn again old new (work.Line (Look view)) done) → HasCleanDisk (file_state again) → (world : World) → IsProject world
-      → BeginsFrom (file_state conn) world → AppendsFront (contents old) (contents new) (view_text world view)
-  view_told view does clean world project begun =
-      let (end, sees, told) = does.does in
+  -- of an action at least a part of its text went out
+  part_told : (action : Action) (does : DoesAdopted over_files contents conn again old new (work.Line action) done) → HasCleanDisk (file_state again) → (world : World) → IsProject world
+      → BeginsFrom (file_state conn) world → AppendsFront (contents old) (contents new) (printed_action world action)
+  part_told action does clean world project begun =
+      let (end, acts, told) = does.does in
       let after : HasCleanDisk (state_of does.new) = subst (λ c. HasCleanDisk (file_state c)) does.released clean in
-      let before : HasCleanDisk (state_of does.old) = let kept = sees.clean in omega (arith, kept, after) in
+      let before : HasCleanDisk (state_of does.old) = let kept = work_clean contents does.old does.new old new (work.Line action) done does.does in omega (arith, kept, after) in
       let over = begins over_files contents conn again old new _ done does before world project begun in
-      front end (one_prints contents does.old does.new old new (Look view) end sees does.begins after world (over_shows does.old world over))
+      front end (one_prints contents does.old does.new old new action end acts does.begins after world (over_shows does.old world over))
     where
-      front : (end : Option Fault) → WritesTo contents old new (view_text world view) (line_outcome end) → AppendsFront (contents old) (contents new) (view_text world view)
-      front None whole = (length (view_text world view), subst (Appends (contents old) (contents new)) (sym (take-length (view_text world view))) whole)
+      text : List ℕ
+      text = printed_action world action
+
+      front : (end : Option Fault) → WritesTo contents old new text (line_outcome end) → AppendsFront (contents old) (contents new) text
+      front None whole = (length text, subst (Appends (contents old) (contents new)) (sym (take-length text)) whole)
       front (Some fault) part = part
 
   nothing_told : (asked : Work) → DoesNothing over_files contents conn again old new asked done → HasCleanDisk (file_state again) → (world : World) → RefusesWork (file_state conn) (file_state again) world done
@@ -281,8 +284,10 @@ module _ {D W : Type 0} {g : Ghosts D} (contents : W → Option (List ℕ)) (con
       → BeginsFrom (file_state conn) world → ToldWork world asked ⊎ RefusesWork (file_state conn) (file_state again) world done
   work_told (work.Line (Commands commands)) (inl does) drives clean world project begun = inl (line_told commands does clean world project begun)
   work_told (work.Line (Commands commands)) (inr none) drives clean world project begun = inr (nothing_told _ none clean world)
-  work_told (work.Line (Look view)) (inl does) drives clean world project begun = elim (drives clean world project begun) [ inl works ↦ inl (works, view_told view does clean world project begun) | inr refuses ↦ inr refuses ]
+  work_told (work.Line (Look view)) (inl does) drives clean world project begun = elim (drives clean world project begun) [ inl works ↦ inl (works, part_told (Look view) does clean world project begun) | inr refuses ↦ inr refuses ]
   work_told (work.Line (Look view)) (inr none) drives clean world project begun = inr (nothing_told _ none clean world)
+  work_told (work.Line (Refused fault)) (inl does) drives clean world project begun = elim (drives clean world project begun) [ inl works ↦ inl (works, part_told (Refused fault) does clean world project begun) | inr refuses ↦ inr refuses ]
+  work_told (work.Line (Refused fault)) (inr none) drives clean world project begun = inr (nothing_told _ none clean world)
   work_told (work.Script script) (inl does) drives clean world project begun = inl (script_told script does clean world project begun)
   work_told (work.Script script) (inr none) drives clean world project begun = inr (nothing_told _ none clean world)
 

@@ -22,7 +22,7 @@ use Rattle.wu_machine.specs.declared.command.Answer.{Answer}
 use Rattle.wu_machine.specs.declared.command.Command.{Command}
 use Rattle.wu_passes.specs.Adopting.{IsAdoptionFault}
 use Rattle.wu_arguments.specs.Statuses.{fault_status}
-use Rattle.wu_arguments.specs.declared.action.Action.TheVariants.{Commands, Look}
+use Rattle.wu_arguments.specs.declared.action.Action.TheVariants.{Commands, Look, Refused}
 use Rattle.wu_arguments.specs.declared.step.LineFault.{LineFault}
 use Rattle.wu_report.specs.Texts.{view_text}
 use Rattle.wu_report.specs.Writing.{AppendsFront}
@@ -78,6 +78,7 @@ module _ {D : Type 0} (g : Ghosts D) (files : Files D) where
 abbrev pub TellsDone : Option (List ℕ) → Option (List ℕ) → World → Work → List Answer → ℕ → Type 0
 TellsDone before after world (work.Line (Commands commands)) answers count = (end : Option Fault) × WritesAnswers before after answers (record { acknowledged = count; end = end })
 TellsDone before after world (work.Line (Look view)) answers count = AppendsFront before after (view_text world view)
+TellsDone before after world (work.Line (Refused fault)) answers count = AppendsFront before after []
 TellsDone before after world (work.Script script) answers count = (end : Option LineFault) × TellsSteps before after world (unrolled world script.steps) count end
 
 module _ {D : Type 0} (g : Ghosts D) (files : Files D) (says : Holds) (before after : Option (List ℕ)) where
