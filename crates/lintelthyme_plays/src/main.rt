@@ -5,7 +5,6 @@
 
 mod laws;
 mod plays;
-mod upgrades;
 mod words;
 
 use anyhow::{Context, Result};

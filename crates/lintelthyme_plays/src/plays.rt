@@ -1,6 +1,6 @@
 //! A scenario: a script, and its driver.
 
-use crate::{laws, upgrades, words};
+use crate::{laws, words};
 use anyhow::{Context, Result, bail};
 use std::alloc::Global;
 use std::fs;
@@ -13,8 +13,6 @@ enum Means {
     Words,
     /// By the functions of `wu_stops` and `wu_lives`, each line a batch that is a session of its own.
     Laws,
-    /// By the function that upgrades a project without a session, each line a database.
-    Upgrades,
     Way(Way),
 }
 
@@ -36,7 +34,6 @@ impl<'a> Play<'a> {
         let means = match *name {
             "words" => Means::Words,
             "laws" => Means::Laws,
-            "upgrades" => Means::Upgrades,
             name => Means::Way(Way::read(alloc, name, rest)?),
         };
         Ok(Play {
@@ -52,7 +49,6 @@ impl<'a> Play<'a> {
         match &self.means {
             Means::Words => words::play(rt, text, transcript),
             Means::Laws => laws::play(rt, text, transcript),
-            Means::Upgrades => upgrades::play(rt, text, transcript),
             Means::Way(way) => way.play(rt, text, transcript),
         }
     }

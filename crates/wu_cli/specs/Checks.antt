@@ -92,7 +92,7 @@ finding_line (finding.Taken version name) = taken_line version name.now
 
 abbrev pub reason_line : Reason → List ℕ
 reason_line reason.NoFile = codes "cannot open the database: there is no such file" ++ line_end
-reason_line reason.LogAlone = codes "cannot open the database: its log is there, and its file is gone" ++ line_end
+reason_line reason.LogAlone = codes "cannot open the database: its log is there, and its file is gone or empty" ++ line_end
 reason_line reason.LinkedLog = codes "cannot open the database: its log is a link" ++ line_end
 reason_line reason.InUse = codes "cannot open the database: it is in use" ++ line_end
 reason_line reason.NoDatabase = codes "cannot open the database: it is no database that this program reads" ++ line_end

@@ -12,7 +12,7 @@ use std::io::{self, ErrorKind};
 pub enum Reason {
     /// No file lies at the path.
     NoFile,
-    /// No file lies at the path, but a log lies beside it.
+    /// No file lies at the path, or an empty one, but a log lies beside it.
     LogAlone,
     /// In the place of its log is a link, which an opening does not follow.
     LinkedLog,
@@ -108,7 +108,7 @@ impl Reason {
         match self {
             Reason::NoFile => "cannot open the database: there is no such file\n",
             Reason::LogAlone =>
-                "cannot open the database: its log is there, and its file is gone\n",
+                "cannot open the database: its log is there, and its file is gone or empty\n",
             Reason::LinkedLog => "cannot open the database: its log is a link\n",
             Reason::InUse => "cannot open the database: it is in use\n",
             Reason::NoDatabase => {

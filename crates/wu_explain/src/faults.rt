@@ -62,8 +62,8 @@ fn fault_text<'a>(name: &str) -> Option<&'a str>
     match name {
         "F1" => Some(
             "F1 BadName
-The name of an import or of a workunit is none. Write 1 to 64 letters, digits,
-_, . or -.
+The name of an import or of a workunit is not valid. Write 1 to 64 letters,
+digits, _, . or -.
 Nothing was done. Status 1.
 ",
         ),
@@ -77,8 +77,10 @@ No job was added; the import's name is still free. Status 1.
         "F3" => Some(
             "F3 BadFile ROW CAUSE
 The first faulty row of the file, and its first cause there: explain causes.
-Mend the row, and import again under the same name.
-No row was applied. Row 1 is the header, row 0 the file as a whole. Status 1.
+Mend the row, and import again under the same name. Row 1 is the header. Row 0 is
+the file as a whole: where that is unreadable, see its path and who may read it,
+also of a template.
+No row was applied. Status 1.
 ",
         ),
         "F4" => Some(
@@ -126,8 +128,8 @@ Nothing was done. Status 1.
         ),
         "F10" => Some(
             "F10 NotOpenToCancel
-The workunit is decided, or was given up before. Nothing is to be done; it goes
-its way.
+The workunit is decided, or was given up before. Nothing is to be done: the passes
+go on with it.
 Nothing was changed. Status 1.
 ",
         ),
@@ -155,7 +157,7 @@ The tables are as they were before the command. Status 1.
         ),
         "F14" => Some(
             "F14 Memory
-Memory was wanted and refused. Give more, and go on as after status 4: explain 4.
+Out of memory. Give more, and go on as after status 4: explain 4.
 ",
         ),
         "F15" => Some(

@@ -102,6 +102,20 @@ fn text_of_skip<'a>(word: &str) -> Option<&'a str>
     }
 }
 
+/// Returns the explanation of what could not be done, by the word after `cannot` in lower case; `None` for any other
+/// word.
+fn text_of_trouble<'a>(word: &str) -> Option<&'a str>
+    // A text that is returned is not empty.
+    ensures { IfSome result (λ text. 1 ≤ length text.now) }
+{
+    match word {
+        "open" => status_text("3"),
+        "make" => subject_text("backups"),
+        "write" => subject_text("outputs"),
+        _ => None,
+    }
+}
+
 /// Returns the explanation of the fault of this number and this name, in any case; `None` if there is no such fault.
 fn text_of_fault<'a>(number: &str, name: &str) -> Option<&'a str>
     // A text that is returned is not empty.
@@ -140,6 +154,8 @@ fn text_of_topic<'a>(first: &str, second: &str, third: &str, fourth: &str) -> Op
                 text_of_fault(third, fourth)
             } else if stands_before_skip(first, second) {
                 text_of_skip(third)
+            } else if first == "cannot" {
+                text_of_trouble(second)
             } else {
                 text_of_words(first, second, goes_on)
             }
@@ -157,7 +173,7 @@ fn first_word(text: &str) -> (&str, &str) {
 /// list of all topics. The first word may hold all of them, as where they are quoted. A fault may go on with further
 /// words, as it is printed. Its number and name may also stand after `=` and a status, as a session prints them, or
 /// after `line` and `NUMBER:`, as they are printed of a script. Why a row was skipped may stand after `row` and
-/// `NUMBER:`. Returns `None` if there is no such topic.
+/// `NUMBER:`. What begins with `cannot` is explained by the word after it. Returns `None` if there is no such topic.
 pub fn explanation<'a>(first: &str, second: &str, third: &str, fourth: &str) -> Option<&'a str>
     // A text that is returned is not empty.
     ensures { IfSome result (λ text. 1 ≤ length text.now) }

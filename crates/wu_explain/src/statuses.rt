@@ -34,10 +34,10 @@ The database can't be opened, or F15 or F16: the next opening shows whether the
 last command was done.
 Where it can't be opened, see that the path is right, that no other process has
 the file, that it may be read and written, and that the disk has room; while
-another process has it, wait or use flock. Where the path has no file but its log
-PATH-wal or its journal is there, put the database back beside it. Where PATH-wal is
-a link, put the log itself there. Nothing is opened, either, where the path is that
-of a log, or where the file is no database.
+another process has it, wait or use flock. Where the path has no file, or an empty
+one, but its log PATH-wal or its journal is there, put the database back beside it.
+Where PATH-wal is a link, put the log itself there. Nothing is opened, either, where
+the path is that of a log, or where the file is no database.
 check --db PATH names the cause, where a copy of both files shows it.
 Else open it again by show --view summary: each command that was acknowledged is
 there, and the last one whole or not at all. Then repeat that command. An import
@@ -47,8 +47,7 @@ cancel that was done is refused with F10 or F9.
         ),
         "4" => Some(
             "Status 4
-Memory was wanted (F14): again the next opening shows whether the last command was
-done.
+Out of memory (F14): again the next opening shows whether the last command was done.
 Give the program more memory, or fewer workunits at a time by --limit. Then
 repeat the command: an import under its name with its content acts once, a pass
 does what is still to do, a cancel that was done is refused with F10 or F9.
@@ -57,7 +56,7 @@ does what is still to do, a cancel that was done is refused with F10 or F9.
         "5" => Some(
             "Status 5
 The output could not be written (F17): a command whose text was cut was done, and
-those behind it, in a cycle or a script, were not run. A view may be shown again.
+those after it, in a cycle or a script, were not run. A view may be shown again.
 ",
         ),
         _ => None,

@@ -10,8 +10,8 @@ pub fn subject_text<'a>(name: &str) -> Option<&'a str>
 {
     match name {
         "" => Some(
-            "lintelthyme explain TOPIC tells what is meant, what stands afterwards, what to do
-  F1 to F17     a fault, as it is told: explain F3
+            "lintelthyme explain TOPIC says what is meant, what stands afterwards, what to do
+  F1 to F17     a fault, as it is printed: explain F3
   0 to 5        the status that the program ends with: explain 3
   view VIEW     workunits, results, hosts, archive, summary or classes: explain view
                 hosts
@@ -29,7 +29,20 @@ pub fn subject_text<'a>(name: &str) -> Option<&'a str>
   backups       a copy of a project in a file of its own
   outputs       the outputs of finished jobs as files
   lint          whether a file reads as its import would read it
-Faults, causes and words of skipped rows are taken as they are printed.
+Faults, causes and words of skipped rows are taken as they are printed. Quote a line
+of more than six words.
+",
+        ),
+        "status" => Some(
+            "The status that the program ends with
+  0  done
+  1  refused, as F1 to F13; no sound project; no backup or outputs
+  2  the words are no command, or ask for help
+  3  the database can't be opened or failed: F15, F16
+  4  out of memory: F14
+  5  the output failed: F17
+explain 3 says what to do after 3. The command status prints what waits. As a cause
+of F3, status is a word of a report that is no status: explain causes.
 ",
         ),
         "causes" => Some(
@@ -40,7 +53,7 @@ the first of
   header        row 1: it does not begin with its header
   too_many_rows row 1002: it has more than 1,000 rows
   fields        it has more or fewer fields than the header
-  name input    of a job: the name is none; the input is no hex, or too long
+  name input    of a job: the name is not valid; the input is no hex, or too long
   result host moment
                 of a send or a report: no instance's name, no name, no moment
   status output of a report: no status; no hex, too long, or an output where the
@@ -72,7 +85,7 @@ in a file of another name.
   min_quorum           1 to 20            2
     successes that have to be there before the validator looks
   target_nresults      min_quorum to 20   2
-    results that are wanted
+    results that are needed
   max_error_results    0 to 100           3
     errors that a workunit bears
   max_total_results    1 to 100           10
@@ -120,12 +133,12 @@ that was skipped: explain skips
         ),
         "passes" => Some(
             "A pass takes the first workunits by number that it changes, up to its limit. Where
-it answers its limit, more may be left: run it again, or behind repeat in a script.
+it answers its limit, more may be left: run it again, or after repeat in a script.
   transition    times out what is overdue, makes instances, closes what is given up
   validate      compares results, finds canonical ones and grants credit
   assimilate    closes what is ready, and keeps its canonical output for good
   delete        deletes the inputs and outputs that nobody needs any more
-  purge         removes workunits that are through and were assimilated long enough
+  purge         removes workunits that are finished and were assimilated long enough
                 ago
 A cycle runs transition, validate, transition, assimilate, transition, delete and
 purge. A pass that is repeated does what is still to do.
@@ -146,12 +159,12 @@ at a moment, if it had no limit, a purge with the least age 0.
 stand between words; a word in double quotes may hold blanks. A line that begins
 with # is a comment. At most 1,000 lines, in at most 1,048,576 bytes.
 All lines, and all files that they name, are read before the database is opened: a
-line that can't be run is told with its number, and nothing is done. Then the
+line that can't be run is reported with its number, and nothing is done. Then the
 commands run in one opening up to the first fault; the lines before it are done.
-Behind the word repeat a pass is run until it answers less than its limit, each time
+After the word repeat a pass is run until it answers less than its limit, each time
 as a command of its own, and at most a million times:
   repeat transition --now 2026-03-01T12:00:00Z --limit 1000
-Behind the word try a command, a cycle or a view is run, and where it is refused,
+After the word try a command, a cycle or a view is run, and where it is refused,
 with F1 to F11, that fault is printed in place of its answer, and the script goes on:
   try cancel --workunit job_7
 The last lines may ask for what is made of a copy of the project:
@@ -167,10 +180,10 @@ A session takes such lines one by one from standard input, backups between them 
             "Whether a database holds a sound project
 lintelthyme check --db PATH reads all tables whole, and answers with status 0
   ok version=3 workunits=4 results=8
-or tells with status 1 the first thing that is wrong: the table, the key of the
+or reports with status 1 the first thing that is wrong: the table, the key of the
 row or its place in order of the key, and what is the matter; or with status 3
 why the database can't be opened. It changes no table and makes no database, and
-its memory grows with the tables. Where it tells something, stop all passes, keep
+its memory grows with the tables. Where it reports something, stop all passes, keep
 a copy of both files, and go back to a copy that a check calls sound.
 The order is: tables, their rows, rows that do not agree, the queue, and last the
 names that an upgrade gives. If something has such a name, the project is sound,
@@ -178,8 +191,8 @@ and only its upgrade is refused: set back a version that was lowered by hand, or
 rename what has the name. If there is no table project, and something has a name that
 a new project gives, no command can make one: rename that, or take another file. If
 the name is project, it is a view, or a table with somebody's trigger: drop that.
-A table that has somebody's trigger is told as missing, or its file as no database
-that this program reads. So is a file with a row that refers to none, or with a
+A table that has somebody's trigger is reported as missing, or its file as no
+database that this program reads. So is a file with a row that refers to none, or with a
 virtual table. sqlite3 finds the first two by
   SELECT name, tbl_name FROM sqlite_schema WHERE type = 'trigger'
   PRAGMA foreign_key_check
@@ -190,7 +203,7 @@ virtual table. sqlite3 finds the first two by
 lintelthyme backup --db PATH --to FILE reads a project as a check does, makes FILE
 with all of its tables and without a log, and answers once FILE is on the disk
   backup FILE: version=3 workunits=4 results=8
-What a check finds wrong is told instead, with its status, and no file is made. So
+What a check finds wrong is reported instead, with its status, and no file is made. So
 is a path where something lies, with status 1, and with 3 a disk that does not take
 the file. While another process has the project, there is no backup of it; a line
   backup --to FILE
@@ -214,8 +227,8 @@ writes each archived canonical output into a file of FOLDER with the name of its
 workunit; with --name NAME, that of this workunit alone. It answers
   outputs FOLDER: made=2 there=1
 where one file of three was there already, with the same bytes. Anything else in a
-file's place is told with the number of the workunit, with status 1, and a disk that
-takes no more with 3; the files before it stay. FOLDER has to be there. While another
+file's place is reported with the number of the workunit, with status 1, and a disk
+that takes no more with 3; the files before it stay. FOLDER has to be there. While another
 process has the project, there are no outputs of it; a line
   outputs --to FOLDER
 of a session writes them between two commands, and at the end of a script after the

@@ -33,7 +33,7 @@ and its own
                 DIDNT_NEED (it was closed unsent), VALIDATE_ERROR (a success with
                 an empty output), CLIENT_DETACHED
   its verdict   INIT, VALID, INVALID, NO_CHECK (its workunit was given up),
-                INCONCLUSIVE (more results are wanted), TOO_LATE
+                INCONCLUSIVE (more results are needed), TOO_LATE
   its output    INIT, READY to be deleted, DONE
   host= sent= deadline= received=
   output=       bytes of the output that are held

@@ -27,7 +27,7 @@ pub fn cause_text<'a>(word: &str) -> Option<&'a str>
     match word {
         "unreadable" | "too_long" | "header" | "too_many_rows" | "fields" => named_fault_text("f3"),
         "name" | "input" | "result" | "host" | "moment" => named_fault_text("f3"),
-        "status" | "output" => named_fault_text("f3"),
+        "output" => named_fault_text("f3"),
         _ => None,
     }
 }

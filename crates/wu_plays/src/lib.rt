@@ -17,9 +17,9 @@ mod shown;
 mod stops;
 mod tables;
 mod tally;
+mod upgrades;
 mod way;
 
-pub use runs::{seen_of, told_over, views_of};
+pub use runs::views_of;
 pub use scripts::{write_comment, write_status};
-pub use seen::{Seen, look};
 pub use way::Way;

@@ -1,7 +1,7 @@
 //! The drivers of scenarios.
 
 use crate::course::Between;
-use crate::{driven, lives, memory, outputs, session_outputs, shown, stops, tables};
+use crate::{driven, lives, memory, outputs, session_outputs, shown, stops, tables, upgrades};
 use anyhow::{Result, bail};
 use std::alloc::Global;
 use wu_play_files::Pages;
@@ -28,6 +28,8 @@ pub enum Way {
     Shown,
     /// The lines from this number on as one list, into a writer with room for this number of bytes.
     Driven(u64, usize),
+    /// By the function that upgrades a project without a session, each line a database.
+    Upgrades,
 }
 
 /// Returns the numbers that the words write.
@@ -72,6 +74,7 @@ impl Way {
             "session_outputs" => Way::SessionOutputs,
             "shown" => Way::Shown,
             "driven" => driven(rest)?,
+            "upgrades" => Way::Upgrades,
             _ => bail!("no way to play"),
         };
         Ok(way)
@@ -96,6 +99,7 @@ impl Way {
             Way::SessionOutputs => session_outputs::play(rt, text, transcript),
             Way::Shown => shown::play(rt, text, transcript),
             Way::Driven(first, room) => driven::play(rt, text, *first, *room, transcript),
+            Way::Upgrades => upgrades::play(rt, text, transcript),
         }
     }
 }

@@ -5,6 +5,7 @@ ghost use Rattle.wu_core.specs.declared.fault.Fault.TheVariants.{Memory};
 ghost use Rattle.wu_process.specs.Opening.{IsBar, names_log};
 
 use crate::files::HostFiles;
+use crate::header::SHORTEST_LOG;
 use std::alloc::AllocError;
 use std::fs;
 use std::io::ErrorKind;
@@ -35,10 +36,6 @@ pub fn names_log(path: &str) -> bool
     let bytes = path.as_bytes();
     bytes.ends_with(b"-wal") || bytes.ends_with(b"-journal") || bytes.ends_with(b"-shm")
 }
-
-/// How many bytes a log has at least that holds a page: a header of 32, and a frame of 24 with a page of 512. What a close
-/// leaves of a log is shorter.
-const SHORTEST_LOG: u64 = 568;
 
 /// Returns how many bytes the file at the path has; 0 if there is none, or if that cannot be found out.
 fn len_at(rt: &HostRuntime, path: &str) -> u64 {
@@ -74,6 +71,12 @@ pub fn has_linked_log(rt: &HostRuntime, path: &str) -> Result<bool, AllocError> 
 /// Returns whether a log or a journal with content, or a link in the place of a log, lies beside the path.
 pub fn is_taken_beside(rt: &HostRuntime, path: &str) -> Result<bool, AllocError> {
     Ok(has_content_beside(rt, path)? || has_linked_log(rt, path)?)
+}
+
+/// Returns whether the file at the path is empty, and a log that holds a page, or a journal with content, lies beside it.
+/// No stop leaves that: a database has its first byte before its log has a page.
+pub fn is_emptied(rt: &HostRuntime, path: &str) -> Result<bool, AllocError> {
+    Ok(fs::metadata(rt, path).is_ok_and(|found| found.len() == 0) && has_log(rt, path)?)
 }
 
 /// Returns whether these first bytes of a file may be what a stop left of a new database: its header after a first byte
@@ -124,8 +127,8 @@ pub fn has_foreign_log(rt: &HostRuntime, path: &str) -> Result<bool, Fault>
     }
 }
 
-/// Returns whether what lies at a path is no file, is a file of something else, or has such a file, or a link, in the
-/// place of its log. The only fault is `Memory`.
+/// Returns whether what lies at a path is no file, is a file of something else, was emptied beside its log, or has a file
+/// of something else, or a link, in the place of its log. The only fault is `Memory`.
 fn is_barred_at(rt: &HostRuntime, path: &str) -> Result<bool, Fault>
     // The only fault is `Memory`.
     ensures { IfErr result (λ fault. fault ≡ Memory) }
@@ -133,14 +136,14 @@ fn is_barred_at(rt: &HostRuntime, path: &str) -> Result<bool, Fault>
     if is_no_file(rt, path) || has_foreign_log(rt, path)? || has_linked_log(rt, path)? {
         return Ok(true);
     }
-    Ok(!has_log(rt, path)? && is_foreign(rt, path)?)
+    Ok(is_emptied(rt, path)? || (!has_log(rt, path)? && is_foreign(rt, path)?))
 }
 
 /// Refuses a database that must not be opened, because the opening would destroy or make files that are not its own.
 ///
-/// So it is where the path names a log, and where a log or a journal has lost its database. So it is, too, where no file
-/// lies at the path, a file without a log that is no database, or something else, or a link, in the place of the log. Out
-/// of memory is reported as `Memory`.
+/// So it is where the path names a log, and where a log or a journal has lost its database, or that is empty. So it is,
+/// too, where no file lies at the path, a file without a log that is no database, or something else, or a link, in the
+/// place of the log. Out of memory is reported as `Memory`.
 pub fn bar(rt: &HostRuntime, path: &str) -> Result<(), Trouble>
     // A refusal is reported as a database that cannot be opened, or as out of memory.
     ensures { IfErr result IsBar }

@@ -4,7 +4,9 @@ ghost use Rattle.std.specs.Prelude.{◌≡◌, IfErr, IfOk};
 ghost use Rattle.wu_cli.specs.declared.reason.Reason.TheVariants.{Memory as WantsMemory};
 ghost use Rattle.wu_process.specs.Copies.{AreCopiedFrom, AreCopiesOf, IsCopyOf};
 
-use crate::beside::{has_content_beside, has_foreign_log, has_linked_log, has_log, is_foreign};
+use crate::beside::{
+    has_content_beside, has_foreign_log, has_linked_log, has_log, is_emptied, is_foreign,
+};
 use crate::header::refuse_other_kind;
 use sqlite::{FileFrom, Files};
 use sqlite_disk::{Disk, Memory, Wary};
@@ -137,14 +139,17 @@ fn why_no_file(rt: &HostRuntime, path: &str, error: &io::Error) -> Reason {
     }
 }
 
-/// Refuses a file without a log that begins as no database does, before more of it is read, and one with something else,
-/// or a link, in the place of its log.
+/// Refuses a file without a log that begins as no database does, before more of it is read; one that was emptied beside
+/// its log; and one with something else, or a link, in the place of its log.
 fn refuse_foreign(rt: &HostRuntime, path: &str) -> Result<(), Reason> {
     if has_linked_log(rt, path).map_err(|_| Reason::Memory)? {
         return Err(Reason::LinkedLog);
     }
     if has_foreign_log(rt, path).map_err(|_| Reason::Memory)? {
         return Err(Reason::Damaged);
+    }
+    if is_emptied(rt, path).map_err(|_| Reason::Memory)? {
+        return Err(Reason::LogAlone);
     }
     let is_alone = !has_log(rt, path).map_err(|_| Reason::Memory)?;
     if is_alone && is_foreign(rt, path).map_err(|_| Reason::Memory)? {

@@ -28,6 +28,12 @@ const FRAME_HEADER: usize = 24;
 
 const FRAME_SALT: [usize; 2] = [8, 12];
 
+/// The bytes of the smallest page.
+const SMALLEST_PAGE: usize = 512;
+
+/// How many bytes a log has at least that holds a page. What a close leaves of a log is shorter.
+pub const SHORTEST_LOG: u64 = (LOG_HEADER + FRAME_HEADER + SMALLEST_PAGE) as u64;
+
 /// Returns the number in the four bytes at this place, of which the first is the highest.
 fn number_at(bytes: &[u8], at: usize) -> Option<u32> {
     match bytes.get(at..at.saturating_add(4)) {
@@ -36,7 +42,7 @@ fn number_at(bytes: &[u8], at: usize) -> Option<u32> {
     }
 }
 
-/// Returns whether the frame belongs to the log: a log that is begun anew may end with frames of the one before.
+/// Returns whether the frame belongs to the log: a log that begins again may end with frames of the one before.
 fn is_frame_of(log: &[u8], frame: &[u8]) -> bool {
     number_at(frame, FRAME_SALT[0]) == number_at(log, LOG_SALT[0])
         && number_at(frame, FRAME_SALT[1]) == number_at(log, LOG_SALT[1])

@@ -1,5 +1,8 @@
 //! Scenarios of the function that upgrades a project on a connection, without a session over it.
 
+use crate::runs::{seen_of, told_over};
+use crate::scripts::write_comment;
+use crate::seen::{Seen, look};
 use anyhow::{Context, Result, bail, ensure};
 use sqlite::{Alter, Connection};
 use std::alloc::Global;
@@ -8,11 +11,10 @@ use std::{fmt, fs};
 use wu_core::Fault;
 use wu_passes::upgrade;
 use wu_play_files::{MOST_CALLS, Pages, PlayFiles, Saved, Side, Visit, options, visit_play};
-use wu_plays::{Seen, look, seen_of, told_over, write_comment};
 
 /// How an upgrade ended.
 #[derive(Clone, Copy)]
-enum End {
+enum UpgradeEnd {
     /// The files could not be opened.
     Unopened,
     /// With this fault, before its transaction.
@@ -22,43 +24,43 @@ enum End {
     Done,
 }
 
-impl End {
+impl UpgradeEnd {
     /// Returns the fault of the upgrade.
     fn fault(self) -> Option<Fault> {
         match self {
-            End::Unbegun(fault) | End::Begun(fault) => Some(fault),
-            End::Unopened | End::Done => None,
+            UpgradeEnd::Unbegun(fault) | UpgradeEnd::Begun(fault) => Some(fault),
+            UpgradeEnd::Unopened | UpgradeEnd::Done => None,
         }
     }
 
     /// Returns whether the project may be found so afterwards: upgraded, or as it was.
     fn may_leave(self, is_upgraded: bool) -> bool {
         match self {
-            End::Unopened | End::Unbegun(_) => !is_upgraded,
-            End::Begun(_) => true,
-            End::Done => is_upgraded,
+            UpgradeEnd::Unopened | UpgradeEnd::Unbegun(_) => !is_upgraded,
+            UpgradeEnd::Begun(_) => true,
+            UpgradeEnd::Done => is_upgraded,
         }
     }
 }
 
-impl fmt::Display for End {
+impl fmt::Display for UpgradeEnd {
     fn fmt<W: fmt::Write>(&self, f: &mut fmt::Formatter<W>) -> fmt::Result {
         match self {
-            End::Unopened => f.write_str("not opened"),
-            End::Unbegun(fault) => write!(f, "{fault} before the transaction"),
-            End::Begun(fault) => write!(f, "{fault} in the transaction"),
-            End::Done => f.write_str("done"),
+            UpgradeEnd::Unopened => f.write_str("not opened"),
+            UpgradeEnd::Unbegun(fault) => write!(f, "{fault} before the transaction"),
+            UpgradeEnd::Begun(fault) => write!(f, "{fault} in the transaction"),
+            UpgradeEnd::Done => f.write_str("done"),
         }
     }
 }
 
 /// Upgrades the project in a database, and returns how that ended.
-fn upgrade_in<S: Alter>(alloc: Global, conn: &mut Connection<S>) -> Result<End> {
+fn upgrade_in<S: Alter>(alloc: Global, conn: &mut Connection<S>) -> Result<UpgradeEnd> {
     ensure!(conn.is_autocommit(), "a transaction is open");
     let end = match upgrade(conn, alloc) {
-        Ok(()) => End::Done,
-        Err((fault, false)) => End::Unbegun(fault),
-        Err((fault, true)) => End::Begun(fault),
+        Ok(()) => UpgradeEnd::Done,
+        Err((fault, false)) => UpgradeEnd::Unbegun(fault),
+        Err((fault, true)) => UpgradeEnd::Begun(fault),
     };
     Ok(end)
 }
@@ -68,13 +70,13 @@ fn upgrade_in<S: Alter>(alloc: Global, conn: &mut Connection<S>) -> Result<End> 
 struct Upgrading;
 
 impl Visit for Upgrading {
-    type Told = End;
+    type Told = UpgradeEnd;
 
     fn visit<S: Alter + Drop>(
         self,
         alloc: Global,
         mut conn: Connection<S>,
-    ) -> Result<(Connection<S>, End)> {
+    ) -> Result<(Connection<S>, UpgradeEnd)> {
         let end = upgrade_in(alloc, &mut conn)?;
         Ok((conn, end))
     }
@@ -82,18 +84,18 @@ impl Visit for Upgrading {
 
 /// Opens files, upgrades the project in them, and closes them as far as their calls succeed. Returns the files, how the
 /// upgrade ended, and whether the close succeeded.
-fn run(alloc: Global, files: PlayFiles) -> Result<(PlayFiles, End, bool)> {
+fn run(alloc: Global, files: PlayFiles) -> Result<(PlayFiles, UpgradeEnd, bool)> {
     let left = visit_play(alloc, files, options(1, Pages::Few), Upgrading)?;
     let (files, told, is_closed) = left.into_parts();
     let end = match told {
         Some(end) => end,
-        None => End::Unopened,
+        None => UpgradeEnd::Unopened,
     };
     Ok((files, end, is_closed))
 }
 
 /// Upgrades a database over files that do not fail. Returns their contents after the close, and how the upgrade ended.
-fn run_whole(alloc: Global, saved: &Saved) -> Result<(Saved, End)> {
+fn run_whole(alloc: Global, saved: &Saved) -> Result<(Saved, UpgradeEnd)> {
     let (files, end, is_closed) = run(alloc, saved.files(alloc)?)?;
     ensure!(is_closed, "it is not closed");
     Ok((files.saved(alloc)?, end))
@@ -131,7 +133,7 @@ fn go_on<S: Alter + Drop>(
     let (mut conn, found) = look(alloc, conn)?;
     let is_upgraded = case.is_upgraded(&found)?;
     let end = upgrade_in(alloc, &mut conn)?;
-    ensure!(matches!(end, End::Done), "{end} at the next upgrade");
+    ensure!(matches!(end, UpgradeEnd::Done), "{end} at the next upgrade");
     let (conn, found) = look(alloc, conn)?;
     ensure!(found.is_same(case.after), "another end");
     Ok((conn, is_upgraded))
@@ -183,7 +185,7 @@ impl Finds {
     }
 
     /// Checks what an upgrade left that ended so, and counts what was found.
-    fn find(&mut self, alloc: Global, case: Case<'_>, files: Saved, end: End) -> Result<()> {
+    fn find(&mut self, alloc: Global, case: Case<'_>, files: Saved, end: UpgradeEnd) -> Result<()> {
         let is_upgraded = self.is_upgraded(alloc, case, &files)?;
         ensure!(end.may_leave(is_upgraded), "it tells otherwise");
         if is_upgraded {
@@ -221,12 +223,12 @@ impl Tally {
         }
     }
 
-    fn count(&mut self, end: End) {
+    fn count(&mut self, end: UpgradeEnd) {
         let count = match end {
-            End::Unopened => &mut self.unopened,
-            End::Unbegun(_) => &mut self.unbegun,
-            End::Begun(_) => &mut self.begun,
-            End::Done => &mut self.done,
+            UpgradeEnd::Unopened => &mut self.unopened,
+            UpgradeEnd::Unbegun(_) => &mut self.unbegun,
+            UpgradeEnd::Begun(_) => &mut self.begun,
+            UpgradeEnd::Done => &mut self.done,
         };
         *count = count.saturating_add(1);
     }
@@ -255,7 +257,7 @@ fn stop(alloc: Global, case: Case<'_>, side: Side, calls: u64, tally: &mut Tally
     let (mut files, end, is_closed) = run(alloc, case.saved.stopping(alloc, side, calls)?)?;
     if !files.are_stopped() {
         ensure!(
-            is_closed && matches!(end, End::Done),
+            is_closed && matches!(end, UpgradeEnd::Done),
             "a fault without a stop"
         );
         return Ok(false);
@@ -314,7 +316,7 @@ fn play_database(alloc: Global, saved: &Saved, transcript: &mut Vec<u8>) -> Resu
         writeln!(transcript, "{end}, nothing changes")?;
         return Ok(());
     }
-    ensure!(matches!(end, End::Done), "{end}, and it writes");
+    ensure!(matches!(end, UpgradeEnd::Done), "{end}, and it writes");
     play_change(alloc, saved, &left, transcript)
 }
 
