@@ -4,6 +4,7 @@ mod ActionLemmas
 mod TryLemmas
 pub mod ScriptLemmas
 mod RepeatLemmas
+mod RowLineLemmas
 pub mod PrintLemmas
 pub mod TellingLemmas
 pub mod WorkLemmas

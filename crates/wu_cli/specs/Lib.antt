@@ -10,6 +10,7 @@ pub mod Outputs
 pub mod Performing
 pub mod Trying
 pub mod Repeating
+pub mod RowLines
 pub mod Scripting
 pub mod Troubles
 pub mod Working

@@ -19,6 +19,7 @@ use Rattle.wu_arguments.specs.declared.order.LintOrder.{LintOrder}
 use Rattle.wu_arguments.specs.declared.order.ScriptFile.{ScriptFile}
 use Rattle.wu_arguments.specs.declared.usage.Usage.TheVariants.{UnknownKind}
 use Rattle.wu_cli.specs.Endings.{fault_line}
+use Rattle.wu_cli.specs.RowLines.{line_in_file}
 use Rattle.wu_cli.specs.Working.{AsksOfScript}
 use Rattle.wu_cli.specs.declared.linting.FileKind.{FileKind}
 use Rattle.wu_cli.specs.declared.linting.FileKind.TheVariants.{Jobs, Sends, Reports, Classes, Template}
@@ -118,13 +119,18 @@ abbrev pub found_by : FileKind → List ℕ → Fault → Option (List ℕ)
 found_by kind bytes (BadFile row cause) = found_in bytes row (column_of kind cause)
 found_by kind bytes _ = None
 
--- A file of this kind that is refused with a fault, with the field that is refused.
+-- In which line of a file the row stands that a fault refuses; 0 if it refuses none.
+abbrev pub line_by : List ℕ → Fault → ℕ
+line_by bytes (BadFile row cause) = if row == 0 then 0 else line_in_file bytes row
+line_by bytes _ = 0
+
+-- A file of this kind that is refused with a fault, with the line and the field that are refused.
 abbrev pub unread : FileKind → List ℕ → Fault → Unread
-unread kind bytes fault = record { kind = kind; fault = fault; found = found_by kind bytes fault }
+unread kind bytes fault = record { kind = kind; fault = fault; line = line_by bytes fault; found = found_by kind bytes fault }
 
 -- A file of this kind that is refused with a fault at no field.
 abbrev pub unfound : FileKind → Fault → Unread
-unfound kind fault = record { kind = kind; fault = fault; found = None }
+unfound kind fault = record { kind = kind; fault = fault; line = 0; found = None }
 
 -- What a reading refuses, with the field that is refused.
 abbrev pub with_found : FileKind → List ℕ → Result (Unit {0}) Fault → Result (Unit {0}) Unread
@@ -142,6 +148,13 @@ as_trouble (Ok read) = Ok tt
 as_trouble (Err unread) = Err (trouble.Unread unread)
 
 -- ---- the texts
+
+abbrev pub in_line : ℕ → List ℕ
+in_line line = codes "in line " ++ (decimal line ++ line_end)
+
+-- In which line the row stands that is refused; nothing if none is.
+abbrev pub line_text : ℕ → List ℕ
+line_text line = if line == 0 then [] else in_line line
 
 -- The field that is refused, if a report shows it.
 abbrev pub found_text : Option (List ℕ) → List ℕ
@@ -162,9 +175,9 @@ abbrev pub wanted_text : FileKind → Fault → List ℕ
 wanted_text kind (BadFile row cause) = wanted_line (column_of kind cause) (wanted kind cause)
 wanted_text kind _ = []
 
--- The fault of a file, what was found there and what is wanted.
+-- The fault of a file, in which line it is, what was found there and what is wanted.
 abbrev pub unread_text : Unread → List ℕ
-unread_text unread = fault_line unread.fault ++ (found_text unread.found ++ wanted_text unread.kind unread.fault)
+unread_text unread = fault_line unread.fault ++ (line_text unread.line ++ (found_text unread.found ++ wanted_text unread.kind unread.fault))
 
 module _ (gives : List ℕ → ℕ → Option (List ℕ) → Type 0) where
   -- The file at the path is read as one of this kind, or the call is out of memory.

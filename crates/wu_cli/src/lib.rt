@@ -13,6 +13,7 @@ mod outputs;
 mod performing;
 mod reason;
 mod repeating;
+mod row_lines;
 mod serving;
 mod session;
 mod texts;

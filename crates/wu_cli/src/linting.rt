@@ -1,15 +1,16 @@
 //! Whether a file reads as its import or its script would read it. No database is opened.
 
-ghost use Rattle.std.specs.Prelude.{◌≡◌, ◌⊎◌, IsOkUnless, Ok};
+ghost use Rattle.std.specs.Prelude.{◌≡◌, ◌⊎◌, IfOk, IsOkUnless, Ok};
 ghost use Rattle.wu_core.specs.declared.fault.Fault.TheVariants.{Memory, Output};
 ghost use Rattle.wu_core.specs.Reads.{IsOrWantsMemory};
 ghost use Rattle.wu_report.specs.Writing.{WritesTo};
-ghost use Rattle.wu_cli.specs.Linting.{column_line, column_of, found_by, found_text, header_wanted, kind_named, Lints, LintsFile, LintsKind, LintsScript, longest_of, nothing_of, read_as, sound_file_text, unfound, unread, unread_text, wanted, wanted_line, wanted_text};
+ghost use Rattle.wu_cli.specs.Linting.{column_line, column_of, found_by, found_text, header_wanted, in_line, kind_named, line_by, line_text, Lints, LintsFile, LintsKind, LintsScript, longest_of, nothing_of, read_as, sound_file_text, unfound, unread, unread_text, wanted, wanted_line, wanted_text};
 
+use crate::row_lines::line_in_file;
 use crate::texts::{line_of_fault, worded, write_flushed};
 use crate::trouble::Trouble;
 use crate::work::Work;
-use std::alloc::Global;
+use std::alloc::{AllocError, Global};
 use std::io::Write;
 use wu_arguments::{LintOrder, ReadFile, ScriptFile, Usage, Word};
 use wu_core::{Fault, FileCause};
@@ -34,6 +35,8 @@ pub enum FileKind {
 pub struct Unread {
     pub kind: FileKind,
     pub fault: Fault,
+    /// In which line of the file the row stands that is refused; 0 if none is.
+    pub line: u64,
     /// The field that is refused, if a report shows it.
     pub found: Option<Word>,
 }
@@ -148,6 +151,31 @@ fn write_wanted_of<W: Write>(out: &mut W, kind: FileKind, fault: Fault) -> Resul
     }
 }
 
+/// Writes the number of a line, and flushes.
+fn write_in_line<W: Write>(out: &mut W, line: u64) -> Result<(), Fault>
+    ensures { WritesTo W.contents out.old out.new (in_line line) result }
+{
+    write_flushed(
+        out,
+        &[
+            Piece::Text("in line "),
+            Piece::Number(line),
+            Piece::Text("\n"),
+        ],
+    )
+}
+
+/// Writes in which line of the file the row stands that is refused; nothing if none is.
+fn write_line_of<W: Write>(out: &mut W, line: u64) -> Result<(), Fault>
+    ensures { WritesTo W.contents out.old out.new (line_text line) result }
+{
+    if line == 0 {
+        Ok(())
+    } else {
+        write_in_line(out, line)
+    }
+}
+
 /// Writes the field that is refused, if a report shows it.
 fn write_found<W: Write>(out: &mut W, found: &Option<Word>) -> Result<(), Fault>
     ensures { WritesTo W.contents out.old out.new (found_text found.now) result }
@@ -158,13 +186,14 @@ fn write_found<W: Write>(out: &mut W, found: &Option<Word>) -> Result<(), Fault>
     }
 }
 
-/// Writes the fault of a file, what was found there and what is wanted.
+/// Writes the fault of a file, in which line it is, what was found there and what is wanted.
 pub(crate) fn text_of_unread<W: Write>(out: &mut W, unread: &Unread) -> Result<(), Fault>
-    // With Ok exactly the fault's line, the field that is refused and what is wanted are written,
-    // and else a prefix of them.
+    // With Ok exactly the fault, the line of its row, the field that is refused and what is wanted
+    // are written, and else a prefix of them.
     ensures { WritesTo W.contents out.old out.new (unread_text unread.now) result }
 {
     line_of_fault(out, unread.fault)?;
+    write_line_of(out, unread.line)?;
     write_found(out, &unread.found)?;
     write_wanted_of(out, unread.kind, unread.fault)
 }
@@ -225,12 +254,30 @@ fn found_by(
     }
 }
 
-/// Returns the file of this kind that is refused with a fault, with the field that is refused.
+/// Returns in which line of a file the row stands that a fault refuses; 0 if it refuses none.
+fn line_by(alloc: Global, bytes: &[u8], fault: Fault) -> Result<u64, AllocError>
+    ensures { IfOk result (λ line. line ≡ line_by bytes.now fault) }
+{
+    match fault {
+        Fault::BadFile { row, cause: _cause } if row > 0 => line_in_file(alloc, bytes, row),
+        _ => Ok(0),
+    }
+}
+
+/// Returns the file of this kind that is refused with a fault, with the line and the field that are refused.
 fn unread_of(alloc: Global, kind: FileKind, bytes: &[u8], fault: Fault) -> Unread
     ensures { (result ≡ unread kind bytes.now fault) ⊎ (result ≡ unfound kind Memory) }
 {
+    let Ok(line) = line_by(alloc, bytes, fault) else {
+        return unfound(kind, Fault::Memory);
+    };
     match found_by(alloc, kind, bytes, fault) {
-        Ok(found) => Unread { kind, fault, found },
+        Ok(found) => Unread {
+            kind,
+            fault,
+            line,
+            found,
+        },
         Err(fault) => unfound(kind, fault),
     }
 }
@@ -242,6 +289,7 @@ fn unfound(kind: FileKind, fault: Fault) -> Unread
     Unread {
         kind,
         fault,
+        line: 0,
         found: None,
     }
 }
