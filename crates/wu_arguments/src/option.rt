@@ -3,6 +3,13 @@
 ghost use Rattle.std.specs.Prelude.{◌≡◌};
 ghost use Rattle.wu_arguments.specs.CommandLine.{is_required_value, option_name, value_of_option};
 
+/// The help of an option that names a file of so many rows or lines at most.
+macro_rules! limited {
+    ($file:literal, $parts:literal) => {
+        concat!($file, "; at most 1,000 ", $parts, " and 1,048,576 bytes")
+    };
+}
+
 /// What follows an option on a line.
 #[derive(Clone, Copy)]
 pub enum OptionValue {
@@ -153,7 +160,7 @@ impl LineOption {
                 name: "jobs",
                 value: OptionValue::Text,
                 value_name: "FILE",
-                help: "CSV file of jobs with the header name,input; at most 1,000 rows and 1,048,576 bytes",
+                help: limited!("CSV file of jobs with the header name,input", "rows"),
             },
             LineOption::Template => OptionForm {
                 name: "template",
@@ -165,25 +172,34 @@ impl LineOption {
                 name: "file",
                 value: OptionValue::Text,
                 value_name: "FILE",
-                help: "CSV file of sends with the header result,host,moment; at most 1,000 rows and 1,048,576 bytes",
+                help: limited!(
+                    "CSV file of sends with the header result,host,moment",
+                    "rows"
+                ),
             },
             LineOption::Reports => OptionForm {
                 name: "file",
                 value: OptionValue::Text,
                 value_name: "FILE",
-                help: "CSV file of reports with the header result,host,moment,status,output; at most 1,000 rows and 1,048,576 bytes",
+                help: limited!(
+                    "CSV file of reports with the header result,host,moment,status,output",
+                    "rows"
+                ),
             },
             LineOption::Classes => OptionForm {
                 name: "file",
                 value: OptionValue::Text,
                 value_name: "FILE",
-                help: "CSV file of classes with the header host,class; at most 1,000 rows and 1,048,576 bytes",
+                help: limited!("CSV file of classes with the header host,class", "rows"),
             },
             LineOption::Commands => OptionForm {
                 name: "file",
                 value: OptionValue::Text,
                 value_name: "FILE",
-                help: "Text file of a command a line, without the program's name and without --db; at most 1,000 lines and 1,048,576 bytes",
+                help: limited!(
+                    "Text file of a command a line, without the program's name and without --db",
+                    "lines"
+                ),
             },
             LineOption::Now => OptionForm {
                 name: "now",

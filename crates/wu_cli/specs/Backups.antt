@@ -48,7 +48,7 @@ abbrev pub unmade_words : Unmade → List ℕ
 unmade_words unmade.Taken = codes "something is there already"
 unmade_words unmade.OtherBytes = codes "something else is there already"
 unmade_words unmade.LogName = codes "its name is that of a log"
-unmade_words unmade.LogBeside = codes "a log lies beside it"
+unmade_words unmade.LogBeside = codes "a log or a journal lies beside it"
 unmade_words unmade.PartBeside = codes "a part of an earlier one lies beside it"
 unmade_words unmade.NoFolder = codes "its folder is not there"
 unmade_words unmade.FullDisk = codes "the disk is full"

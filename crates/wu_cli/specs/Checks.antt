@@ -92,8 +92,10 @@ finding_line (finding.Taken version name) = taken_line version name.now
 
 abbrev pub reason_line : Reason → List ℕ
 reason_line reason.NoFile = codes "cannot open the database: there is no such file" ++ line_end
-reason_line reason.LogAlone = codes "cannot open the database: its log is there, and its file is gone or empty" ++ line_end
+reason_line reason.LogName = codes "cannot open the database: its name is that of a log" ++ line_end
+reason_line reason.LogAlone = codes "cannot open the database: its log or its journal is there, and its file is gone or empty" ++ line_end
 reason_line reason.LinkedLog = codes "cannot open the database: its log is a link" ++ line_end
+reason_line reason.ForeignLog = codes "cannot open the database: something else lies in the place of its log or its journal" ++ line_end
 reason_line reason.InUse = codes "cannot open the database: it is in use" ++ line_end
 reason_line reason.NoDatabase = codes "cannot open the database: it is no database that this program reads" ++ line_end
 reason_line reason.OtherKind = codes "cannot open the database: it has auto-vacuum or texts in UTF-16" ++ line_end

@@ -6,6 +6,7 @@ pub mod Endings
 pub mod Explaining
 pub mod Exports
 pub mod Linting
+pub mod LogNames
 pub mod Outputs
 pub mod Performing
 pub mod Trying

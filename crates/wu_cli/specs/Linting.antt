@@ -1,11 +1,13 @@
 -- Whether a file reads as its import or its script would read it.
 use Rattle.std.specs.Prelude.{◌≡◌, ◌⊎◌, ℕ, ◌==◌, ◌-◌, List, [], ◌∷◌, ◌++◌, bytes_eq, codes, if◌then◌else◌, IfErr, Option, Some, None, Result, Ok, Err}
 use Rattle.std.specs.Fmt.{decimal}
-use Rattle.wu_core.specs.Limits.{highest_class, longest_input, longest_name, longest_output, most_instances}
+use Rattle.wu_core.specs.Limits.{highest_class, highest_quorum, longest_delay, longest_input, longest_name, longest_output, most_credit, most_instances}
 use Rattle.wu_core.specs.declared.fault.Fault.{Fault}
-use Rattle.wu_core.specs.declared.fault.Fault.TheVariants.{BadFile, Memory, Output}
+use Rattle.wu_core.specs.declared.fault.Fault.TheVariants.{BadFile, BadTemplate, Memory, Output}
 use Rattle.wu_core.specs.declared.fault.FileCause.{FileCause}
 use Rattle.wu_core.specs.declared.fault.FileCause.TheVariants as cause
+use Rattle.wu_core.specs.declared.fault.TemplateKey.{TemplateKey}
+use Rattle.wu_core.specs.declared.fault.TemplateKey.TheVariants as key
 use Rattle.wu_feed.specs.Classes.{classes_header, classes_of_file}
 use Rattle.wu_feed.specs.Jobs.{jobs_header, jobs_of_file}
 use Rattle.wu_feed.specs.Limits.{longest_file, longest_template, most_rows}
@@ -95,6 +97,22 @@ wanted kind cause.Status = codes "success, client_error or detached"
 wanted kind cause.Output = codes "hex, 0 to " ++ (decimal longest_output ++ codes " bytes, of a success alone")
 wanted kind cause.Class = codes "a number from 1 to " ++ decimal highest_class
 
+-- What is wanted of a number in this range.
+abbrev pub number_wanted : ℕ → ℕ → List ℕ
+number_wanted low high = codes "a whole number from " ++ (decimal low ++ (codes " to " ++ decimal high))
+
+-- What is wanted of a template that is refused with a key.
+abbrev pub wanted_of_key : TemplateKey → List ℕ
+wanted_of_key key.Document = codes "TOML with each key once, at most " ++ (decimal longest_template ++ codes " bytes")
+wanted_of_key key.Unknown = codes "no keys but min_quorum, target_nresults, max_error_results, max_total_results, max_success_results, delay_bound and credit"
+wanted_of_key key.MinQuorum = number_wanted 1 highest_quorum
+wanted_of_key key.TargetNresults = codes "a whole number from min_quorum to " ++ decimal highest_quorum
+wanted_of_key key.MaxErrorResults = number_wanted 0 most_instances
+wanted_of_key key.MaxTotalResults = number_wanted 1 most_instances
+wanted_of_key key.MaxSuccessResults = number_wanted 0 most_instances
+wanted_of_key key.DelayBound = number_wanted 1 longest_delay
+wanted_of_key key.Credit = number_wanted 0 most_credit
+
 -- The column, from 1, of the field that a cause refuses; 0 if it refuses no field.
 abbrev pub column_of : FileKind → FileCause → ℕ
 column_of Classes cause.Host = 1
@@ -170,9 +188,10 @@ wanted_line column text =
     then codes "wanted: " ++ text ++ line_end
     else column_line column text
 
--- What is wanted where a file of rows is refused; nothing for any other fault.
+-- What is wanted where a file of rows or a template is refused; nothing for any other fault.
 abbrev pub wanted_text : FileKind → Fault → List ℕ
 wanted_text kind (BadFile row cause) = wanted_line (column_of kind cause) (wanted kind cause)
+wanted_text kind (BadTemplate key) = wanted_line 0 (wanted_of_key key)
 wanted_text kind _ = []
 
 -- The fault of a file, in which line it is, what was found there and what is wanted.

@@ -1,5 +1,5 @@
 -- The outputs of archived workunits as files.
-use Rattle.std.specs.Prelude.{◌≡◌, ◌+◌, ◌⊎◌, ℕ, suc, Bool, true, false, ◌&&◌, List, [], ◌∷◌, ◌++◌, All, bytes_eq, codes, filter, is_some, length, MatchResult, Option, Some, None, Result, Ok, Err}
+use Rattle.std.specs.Prelude.{◌≡◌, ◌+◌, ◌⊎◌, ℕ, suc, Bool, true, false, ◌&&◌, List, [], ◌∷◌, ◌++◌, All, bytes_eq, codes, filter, if◌then◌else◌, is_some, length, MatchResult, Option, Some, None, Result, Ok, Err}
 use Rattle.std.specs.Fmt.{decimal}
 use Rattle.sqlite.specs.Held.{Held}
 use Rattle.sqlite.specs.Store.{Ghosts}
@@ -11,6 +11,7 @@ use Rattle.wu_store.specs.Loading.{IsStoreFault}
 use Rattle.wu_views.specs.Lines.{archived_lines}
 use Rattle.wu_arguments.specs.declared.order.OutputFiles.{OutputFiles}
 use Rattle.wu_cli.specs.Backups.{CountsSound, unmade_words}
+use Rattle.wu_cli.specs.LogNames.{is_reserved}
 use Rattle.wu_cli.specs.declared.backup.Counts.{Counts}
 use Rattle.wu_cli.specs.declared.backup.Unmade.{Unmade}
 use Rattle.wu_cli.specs.declared.backup.Unmade.TheVariants as unmade
@@ -33,9 +34,14 @@ is_wanted name row = is_some row.canonical && is_asked name row
 abbrev pub wanted_of : OutputFiles → List Archived → List Archived
 wanted_of asked rows = filter (is_wanted asked.name) rows
 
--- The path of the file of an output: in the folder, and named for its workunit.
+-- What stands after the name of a workunit in that of its output's file.
+abbrev pub ending_of : List ℕ → List ℕ
+ending_of name = if is_reserved name then codes "+" else []
+
+-- The path of the file of an output: in the folder, and named for its workunit. A `+` stands after a name that no file of
+-- an output has.
 abbrev pub output_path : List ℕ → List ℕ → List ℕ
-output_path folder name = folder ++ (codes "/" ++ name)
+output_path folder name = folder ++ (codes "/" ++ (name ++ ending_of name))
 
 -- How many outputs have their files.
 abbrev pub total : KeptCounts → ℕ

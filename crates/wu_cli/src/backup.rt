@@ -104,7 +104,7 @@ impl Unmade {
             Unmade::Taken => "something is there already",
             Unmade::OtherBytes => "something else is there already",
             Unmade::LogName => "its name is that of a log",
-            Unmade::LogBeside => "a log lies beside it",
+            Unmade::LogBeside => "a log or a journal lies beside it",
             Unmade::PartBeside => "a part of an earlier one lies beside it",
             Unmade::NoFolder => "its folder is not there",
             Unmade::FullDisk => "the disk is full",

@@ -4,7 +4,7 @@ ghost use Rattle.std.specs.Prelude.{◌≡◌, ◌⊎◌, IfOk, IsOkUnless, Ok};
 ghost use Rattle.wu_core.specs.declared.fault.Fault.TheVariants.{Memory, Output};
 ghost use Rattle.wu_core.specs.Reads.{IsOrWantsMemory};
 ghost use Rattle.wu_report.specs.Writing.{WritesTo};
-ghost use Rattle.wu_cli.specs.Linting.{column_line, column_of, found_by, found_text, header_wanted, in_line, kind_named, line_by, line_text, Lints, LintsFile, LintsKind, LintsScript, longest_of, nothing_of, read_as, sound_file_text, unfound, unread, unread_text, wanted, wanted_line, wanted_text};
+ghost use Rattle.wu_cli.specs.Linting.{column_line, column_of, found_by, found_text, header_wanted, in_line, kind_named, line_by, line_text, Lints, LintsFile, LintsKind, LintsScript, longest_of, nothing_of, read_as, sound_file_text, unfound, unread, unread_text, wanted, wanted_line, wanted_of_key, wanted_text};
 
 use crate::row_lines::line_in_file;
 use crate::texts::{line_of_fault, worded, write_flushed};
@@ -13,7 +13,7 @@ use crate::work::Work;
 use std::alloc::{AllocError, Global};
 use std::io::Write;
 use wu_arguments::{LintOrder, ReadFile, ScriptFile, Usage, Word};
-use wu_core::{Fault, FileCause};
+use wu_core::{Fault, FileCause, TemplateKey};
 use wu_feed::{
     LONGEST_FILE, LONGEST_TEMPLATE, read_classes, read_jobs, read_reports, read_sends,
     read_template, shown_field,
@@ -97,6 +97,26 @@ fn wanted(kind: FileKind, cause: FileCause) -> &'static str
     }
 }
 
+/// Returns what is wanted of a template that is refused with this key.
+fn wanted_of_key(key: TemplateKey) -> &'static str
+    ensures { result.now ≡ wanted_of_key key }
+{
+    match key {
+        TemplateKey::Document => "TOML with each key once, at most 65536 bytes",
+        TemplateKey::Unknown => {
+            "no keys but min_quorum, target_nresults, max_error_results, max_total_results, max_success_results, delay_bound and credit"
+        }
+        TemplateKey::MinQuorum => "a whole number from 1 to 20",
+        TemplateKey::TargetNresults => "a whole number from min_quorum to 20",
+        TemplateKey::MaxTotalResults => "a whole number from 1 to 100",
+        TemplateKey::MaxErrorResults | TemplateKey::MaxSuccessResults => {
+            "a whole number from 0 to 100"
+        }
+        TemplateKey::DelayBound => "a whole number from 1 to 31536000",
+        TemplateKey::Credit => "a whole number from 0 to 1000000",
+    }
+}
+
 /// Returns the column, from 1, of the field that a cause refuses in such a file; 0 if it refuses no field.
 fn column_of(kind: FileKind, cause: FileCause) -> u64
     ensures { result ≡ column_of kind cause }
@@ -139,7 +159,7 @@ fn write_wanted<'a, W: Write>(out: &mut W, column: u64, wanted: &'a str) -> Resu
     }
 }
 
-/// Writes what is wanted where a file of rows is refused; nothing for any other fault.
+/// Writes what is wanted where a file of rows or a template is refused; nothing for any other fault.
 fn write_wanted_of<W: Write>(out: &mut W, kind: FileKind, fault: Fault) -> Result<(), Fault>
     ensures { WritesTo W.contents out.old out.new (wanted_text kind fault) result }
 {
@@ -147,6 +167,7 @@ fn write_wanted_of<W: Write>(out: &mut W, kind: FileKind, fault: Fault) -> Resul
         Fault::BadFile { row: _row, cause } => {
             write_wanted(out, column_of(kind, cause), wanted(kind, cause))
         }
+        Fault::BadTemplate(key) => write_wanted(out, 0, wanted_of_key(key)),
         _ => Ok(()),
     }
 }

@@ -2,9 +2,10 @@
 
 ghost use Rattle.std.specs.Prelude.{◌≡◌, IfOk, IfSome, string_bytes, suc};
 ghost use Rattle.wu_report.specs.Writing.{WritesTo};
-ghost use Rattle.wu_cli.specs.Outputs.{HasFile, is_wanted, KeepsOutputs, KeepsSound, lost_line, output_path, total, trouble_of_walk};
+ghost use Rattle.wu_cli.specs.Outputs.{ending_of, HasFile, is_wanted, KeepsOutputs, KeepsSound, lost_line, output_path, total, trouble_of_walk};
 
 use crate::backup::{Unmade, count_sound};
+use crate::log_names::is_reserved;
 use crate::texts::{line_of_fault, write_flushed};
 use crate::trouble::Trouble;
 use sqlite::{Alter, Connection};
@@ -76,6 +77,14 @@ fn is_wanted(asked: &OutputFiles, row: &Archived) -> bool
     }
 }
 
+/// Returns what stands after a workunit's name in that of its output's file: `+`, which no workunit has in its name,
+/// where no file of an output has the workunit's name, and else nothing.
+fn ending_of(name: &str) -> &'static str
+    ensures { result.now ≡ ending_of name.now }
+{
+    if is_reserved(name) { "+" } else { "" }
+}
+
 /// Returns the path of the file of a workunit's output.
 fn output_path(alloc: Global, folder: &str, name: &Name) -> Result<String, AllocError>
     ensures { IfOk result (λ path. string_bytes path ≡ output_path folder.now name.now) }
@@ -83,6 +92,7 @@ fn output_path(alloc: Global, folder: &str, name: &Name) -> Result<String, Alloc
     let mut path = String::from_str(alloc, folder)?;
     path.push_str("/")?;
     path.push_str(name.as_str())?;
+    path.push_str(ending_of(name.as_str()))?;
     Ok(path)
 }
 

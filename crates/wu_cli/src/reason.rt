@@ -12,10 +12,14 @@ use std::io::{self, ErrorKind};
 pub enum Reason {
     /// No file lies at the path.
     NoFile,
-    /// No file lies at the path, or an empty one, but a log lies beside it.
+    /// The path is that of a log or a journal.
+    LogName,
+    /// No file lies at the path, or an empty one, but a log or a journal lies beside it.
     LogAlone,
     /// In the place of its log is a link, which an opening does not follow.
     LinkedLog,
+    /// In the place of its log or its journal is something else.
+    ForeignLog,
     /// Another program has it open.
     InUse,
     /// It is no database, or one that the store does not read.
@@ -107,9 +111,14 @@ impl Reason {
     {
         match self {
             Reason::NoFile => "cannot open the database: there is no such file\n",
-            Reason::LogAlone =>
-                "cannot open the database: its log is there, and its file is gone or empty\n",
+            Reason::LogName => "cannot open the database: its name is that of a log\n",
+            Reason::LogAlone => {
+                "cannot open the database: its log or its journal is there, and its file is gone or empty\n"
+            }
             Reason::LinkedLog => "cannot open the database: its log is a link\n",
+            Reason::ForeignLog => {
+                "cannot open the database: something else lies in the place of its log or its journal\n"
+            }
             Reason::InUse => "cannot open the database: it is in use\n",
             Reason::NoDatabase => {
                 "cannot open the database: it is no database that this program reads\n"

@@ -139,7 +139,7 @@ pub(crate) fn text_of_usage<W: Write>(out: &mut W, usage: &Usage) -> Result<(), 
         Usage::UnknownKind => {
             write_line(
                 out,
-                "unknown kind: jobs, sends, reports, classes, template or script",
+                "unknown kind: it is jobs, sends, reports, classes, template or script",
             )
         }
         Usage::LongLine => write_line(out, "line too long"),

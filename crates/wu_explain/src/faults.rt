@@ -43,6 +43,18 @@ pub fn printed_fault_text<'a>(number: &str, name: &str) -> Option<&'a str>
     }
 }
 
+/// Returns the explanation of the fault of this name, in lower case, without its number; `None` if there is no such fault.
+pub fn unnumbered_fault_text<'a>(name: &str) -> Option<&'a str>
+    // A text that is returned is not empty.
+    ensures { IfSome result (λ text. 1 ≤ length text.now) }
+{
+    match fault_number(name) {
+        // each name is longer than its number
+        Some(number) if number.len() < name.len() => fault_text(number),
+        _ => None,
+    }
+}
+
 /// Returns the explanation of the fault of this number or name, in lower case; `None` if there is no such fault.
 pub fn named_fault_text<'a>(word: &str) -> Option<&'a str>
     // A text that is returned is not empty.

@@ -4,6 +4,7 @@
 
 ghost use Rattle.std.specs.Prelude.{◌≤◌, IfSome, length};
 
+mod columns;
 mod faults;
 mod files;
 mod lowered;
@@ -13,7 +14,8 @@ mod topics;
 mod views;
 mod words;
 
-use faults::{named_fault_text, printed_fault_text};
+use columns::{column_text, counted_text, state_text};
+use faults::{named_fault_text, printed_fault_text, unnumbered_fault_text};
 use files::file_text;
 use lowered::{MOST_BYTES, lowered};
 use statuses::status_text;
@@ -22,11 +24,27 @@ pub use topics::nearest;
 use views::view_text;
 use words::{cause_text, key_text, skip_text, subcommand_text};
 
-/// Returns the explanation of a topic of one word, in lower case; `None` if there is no such topic.
+/// Returns the explanation of what a view prints, in lower case: a state, or the name of a column; `None` for any other
+/// word.
+fn text_of_view_word<'a>(word: &str) -> Option<&'a str>
+    // A text that is returned is not empty.
+    ensures { IfSome result (λ text. 1 ≤ length text.now) }
+{
+    if let Some(text) = state_text(word) {
+        return Some(text);
+    }
+    column_text(word)
+}
+
+/// Returns the explanation of a topic of one word, in lower case; `None` if there is no such topic. A column may have its
+/// value after it, as a view prints it.
 fn text_of_word<'a>(word: &str) -> Option<&'a str>
     // A text that is returned is not empty.
     ensures { IfSome result (λ text. 1 ≤ length text.now) }
 {
+    if let Some((name, _value)) = word.split_once('=') {
+        return column_text(name);
+    }
     if let Some(text) = named_fault_text(word) {
         return Some(text);
     }
@@ -48,17 +66,75 @@ fn text_of_word<'a>(word: &str) -> Option<&'a str>
     if let Some(text) = key_text(word) {
         return Some(text);
     }
-    subcommand_text(word)
+    if let Some(text) = subcommand_text(word) {
+        return Some(text);
+    }
+    text_of_view_word(word)
 }
 
-/// Returns the explanation of a topic, by its words in lower case, and by whether further words stand after them, as
-/// only a fault has them; `None` if there is no such topic.
+/// Returns the explanation of what a check, a backup or outputs report, by its first word in lower case; `None` if none
+/// begins with it.
+fn text_of_report<'a>(word: &str) -> Option<&'a str>
+    // A text that is returned is not empty.
+    ensures { IfSome result (λ text. 1 ≤ length text.now) }
+{
+    match word {
+        "ok" | "table" | "there" | "version" | "queue" | "project" => subject_text("checks"),
+        "workunit" | "result" | "credit_grant" | "host" | "archived" => subject_text("checks"),
+        "import" | "host_class" | "workunit_class" => subject_text("checks"),
+        "backup" => subject_text("backups"),
+        "outputs" => subject_text("outputs"),
+        _ => None,
+    }
+}
+
+/// Returns the explanation of a fault as it is printed, with its number or without, by its first two words in lower case;
+/// `None` if there is none.
+fn text_of_printed<'a>(first: &str, second: &str) -> Option<&'a str>
+    // A text that is returned is not empty.
+    ensures { IfSome result (λ text. 1 ≤ length text.now) }
+{
+    if let Some(text) = printed_fault_text(first, second) {
+        return Some(text);
+    }
+    unnumbered_fault_text(first)
+}
+
+/// Returns the explanation of two words, in lower case: a fault, or a line that counts, with its number; `None` if there
+/// is none.
+fn text_of_two<'a>(first: &str, second: &str) -> Option<&'a str>
+    // A text that is returned is not empty.
+    ensures { IfSome result (λ text. 1 ≤ length text.now) }
+{
+    if let Some(text) = text_of_printed(first, second) {
+        return Some(text);
+    }
+    match second.as_bytes().first() {
+        Some(byte) if byte.is_ascii_digit() => counted_text(first),
+        _ => None,
+    }
+}
+
+/// Returns the explanation of what is printed in three or more words, by its first two in lower case: a fault or a
+/// report; `None` if there is none.
+fn text_of_more<'a>(first: &str, second: &str) -> Option<&'a str>
+    // A text that is returned is not empty.
+    ensures { IfSome result (λ text. 1 ≤ length text.now) }
+{
+    if let Some(text) = text_of_printed(first, second) {
+        return Some(text);
+    }
+    text_of_report(first)
+}
+
+/// Returns the explanation of a topic, by its words in lower case, and by whether further words stand after them; `None`
+/// if there is no such topic.
 fn text_of_words<'a>(first: &str, second: &str, goes_on: bool) -> Option<&'a str>
     // A text that is returned is not empty.
     ensures { IfSome result (λ text. 1 ≤ length text.now) }
 {
     if goes_on {
-        return printed_fault_text(first, second);
+        return text_of_more(first, second);
     }
     if second.is_empty() {
         return text_of_word(first);
@@ -67,7 +143,7 @@ fn text_of_words<'a>(first: &str, second: &str, goes_on: bool) -> Option<&'a str
         "view" => view_text(second),
         "file" => file_text(second),
         "status" => status_text(second),
-        _ => printed_fault_text(first, second),
+        _ => text_of_two(first, second),
     }
 }
 
@@ -116,6 +192,18 @@ fn text_of_trouble<'a>(word: &str) -> Option<&'a str>
     }
 }
 
+/// Returns the explanation of what is unknown, by the word after `unknown` in lower case; `None` for any other word.
+fn text_of_unknown<'a>(word: &str) -> Option<&'a str>
+    // A text that is returned is not empty.
+    ensures { IfSome result (λ text. 1 ≤ length text.now) }
+{
+    match word {
+        "view" => subject_text("view"),
+        "kind:" => subject_text("lint"),
+        _ => None,
+    }
+}
+
 /// Returns the explanation of the fault of this number and this name, in any case; `None` if there is no such fault.
 fn text_of_fault<'a>(number: &str, name: &str) -> Option<&'a str>
     // A text that is returned is not empty.
@@ -132,15 +220,63 @@ fn text_of_fault<'a>(number: &str, name: &str) -> Option<&'a str>
     }
 }
 
+/// Returns the explanation of why something was not done, by the first two words of the reason: a fault, or what cannot be
+/// done or is unknown; `None` if there is none.
+fn text_of_reason<'a>(first: &str, second: &str) -> Option<&'a str>
+    // A text that is returned is not empty.
+    ensures { IfSome result (λ text. 1 ≤ length text.now) }
+{
+    match first {
+        "cannot" => text_of_trouble(second),
+        "unknown" => text_of_unknown(second),
+        _ => text_of_fault(first, second),
+    }
+}
+
+/// Returns the explanation of a line that was not done, as a session or a script reports it: of the reason after these
+/// words in lower case, or else of the status or of scripts.
+fn text_of_line<'a>(first: &str, second: &str, third: &str, fourth: &str) -> Option<&'a str>
+    // A text that is returned is not empty.
+    ensures { IfSome result (λ text. 1 ≤ length text.now) }
+{
+    if let Some(text) = text_of_reason(third, fourth) {
+        return Some(text);
+    }
+    match first {
+        "=" => status_text(second),
+        _ => subject_text("scripts"),
+    }
+}
+
+/// Returns the explanation of a topic, by its first two words in lower case and the next two, each empty where there is
+/// none; `None` if there is no such topic.
+fn text_of_lowered<'a>(first: &str, second: &str, third: &str, fourth: &str) -> Option<&'a str>
+    // A text that is returned is not empty.
+    ensures { IfSome result (λ text. 1 ≤ length text.now) }
+{
+    if stands_before_fault(first, second) {
+        return text_of_line(first, second, third, fourth);
+    }
+    if stands_before_skip(first, second) {
+        return text_of_skip(third);
+    }
+    match (first, second) {
+        ("=", "ready") => subject_text("scripts"),
+        ("cannot", _) => text_of_trouble(second),
+        ("unknown", word) if !word.is_empty() => text_of_unknown(word),
+        ("host", _) if third == "errors" => subject_text("waits"),
+        _ => text_of_words(first, second, !third.is_empty() || !fourth.is_empty()),
+    }
+}
+
 /// Returns the explanation of a topic of these words, in any case, each empty where there is none; `None` if there is no
 /// such topic.
 fn text_of_topic<'a>(first: &str, second: &str, third: &str, fourth: &str) -> Option<&'a str>
     // A text that is returned is not empty.
     ensures { IfSome result (λ text. 1 ≤ length text.now) }
 {
-    let goes_on = !third.is_empty() || !fourth.is_empty();
     // as F17 prints it; in other cases it is a cause of F3
-    if first == "Output" && second.is_empty() && !goes_on {
+    if first == "Output" && second.is_empty() && third.is_empty() {
         return named_fault_text("f17");
     }
     let mut first_room = [0; MOST_BYTES];
@@ -149,17 +285,9 @@ fn text_of_topic<'a>(first: &str, second: &str, third: &str, fourth: &str) -> Op
         lowered(first, &mut first_room),
         lowered(second, &mut second_room),
     ) {
-        (Some(first), Some(second)) => {
-            if stands_before_fault(first, second) {
-                text_of_fault(third, fourth)
-            } else if stands_before_skip(first, second) {
-                text_of_skip(third)
-            } else if first == "cannot" {
-                text_of_trouble(second)
-            } else {
-                text_of_words(first, second, goes_on)
-            }
-        }
+        (Some(first), Some(second)) => text_of_lowered(first, second, third, fourth),
+        // as a long name is in a report
+        (Some(first), None) => text_of_report(first),
         _ => None,
     }
 }
@@ -171,9 +299,10 @@ fn first_word(text: &str) -> (&str, &str) {
 
 /// Returns the explanation of a topic: its words, in any case, each empty where there is none. Without a word it is the
 /// list of all topics. The first word may hold all of them, as where they are quoted. A fault may go on with further
-/// words, as it is printed. Its number and name may also stand after `=` and a status, as a session prints them, or
-/// after `line` and `NUMBER:`, as they are printed of a script. Why a row was skipped may stand after `row` and
-/// `NUMBER:`. What begins with `cannot` is explained by the word after it. Returns `None` if there is no such topic.
+/// words, as it is printed, and its number may be left out. It may also stand after `=` and a status, as a session prints
+/// it, or after `line` and `NUMBER:`, as it is printed of a script. Why a row was skipped may stand after `row` and
+/// `NUMBER:`. What begins with `cannot` or `unknown` is explained by the word after it, and what a check, a backup or
+/// outputs report by its first word. Returns `None` if there is no such topic.
 pub fn explanation<'a>(first: &str, second: &str, third: &str, fourth: &str) -> Option<&'a str>
     // A text that is returned is not empty.
     ensures { IfSome result (λ text. 1 ≤ length text.now) }

@@ -1,7 +1,7 @@
 //! Words in lower case, as the tables of topics have them.
 
-/// The most bytes of a word that is looked up. No topic has a longer word.
-pub const MOST_BYTES: usize = 24;
+/// The most bytes of a word that is looked up. No topic has a longer word, nor has a column with a moment.
+pub const MOST_BYTES: usize = 32;
 
 /// Returns the word with its ASCII letters in lower case, written into `room`; `None` if it is longer than the room.
 pub fn lowered<'a>(word: &str, room: &'a mut [u8; MOST_BYTES]) -> Option<&'a str> {

@@ -34,9 +34,11 @@ The database can't be opened, or F15 or F16: the next opening shows whether the
 last command was done.
 Where it can't be opened, see that the path is right, that no other process has
 the file, that it may be read and written, and that the disk has room; while
-another process has it, wait or use flock. Where the path has no file, or an empty
-one, but its log PATH-wal or its journal is there, put the database back beside it.
-Where PATH-wal is a link, put the log itself there. Nothing is opened, either, where
+another process has it, wait or use flock. Where the path has no file, but its log
+PATH-wal or its journal PATH-journal is there, put the database back beside it; so it
+is where the file is empty, and the log holds a page (it has 568 bytes or more). Where
+PATH-wal is a link, put the log itself there; where something else lies at PATH-wal or
+PATH-journal, as a folder or a text, move it away. Nothing is opened, either, where
 the path is that of a log, or where the file is no database.
 check --db PATH names the cause, where a copy of both files shows it.
 Else open it again by show --view summary: each command that was acknowledged is

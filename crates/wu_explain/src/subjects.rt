@@ -13,6 +13,7 @@ pub fn subject_text<'a>(name: &str) -> Option<&'a str>
             "lintelthyme explain TOPIC says what is meant, what stands afterwards, what to do
   F1 to F17     a fault, as it is printed: explain F3
   0 to 5        the status that the program ends with: explain 3
+  view          which views there are
   view VIEW     workunits, results, hosts, archive, summary or classes: explain view
                 hosts
   file FILE     jobs, sends, reports or classes: explain file jobs
@@ -24,13 +25,26 @@ pub fn subject_text<'a>(name: &str) -> Option<&'a str>
   imports       what becomes of one that comes again
   passes        what each pass does, and whether there is more to do
   mask          why a workunit is given up
+  waits         what the subcommand status prints
   scripts       many commands in one opening
-  checks        whether a database holds a sound project
+  checks        whether a database holds a sound project, and what it reports
   backups       a copy of a project in a file of its own
   outputs       the outputs of finished jobs as files
   lint          whether a file reads as its import would read it
-Faults, causes and words of skipped rows are taken as they are printed. Quote a line
-of more than six words.
+Faults, causes, words of skipped rows, columns, states and counts, and what a check, a
+backup or outputs report are taken as they are printed. Quote a line of more than six
+words.
+",
+        ),
+        "view" | "views" => Some(
+            "The views, each printed by lintelthyme show --db PATH --view VIEW
+  workunits     a line for each workunit
+  results       a line for each instance
+  hosts         the credit of each host with a grant
+  archive       a line for each workunit that was assimilated
+  summary       counts of all of it
+  classes       the class of each host that has one
+explain view workunits says what stands in a line.
 ",
         ),
         "status" => Some(
@@ -142,8 +156,7 @@ it answers its limit, more may be left: run it again, or after repeat in a scrip
                 ago
 A cycle runs transition, validate, transition, assimilate, transition, delete and
 purge. A pass that is repeated does what is still to do.
-The subcommand status prints a line for each pass: how many workunits it would change
-at a moment, if it had no limit, a purge with the least age 0.
+The subcommand status prints how many workunits each would change: explain waits.
 ",
         ),
         "mask" => Some(
@@ -152,6 +165,19 @@ at a moment, if it had no limit, a purge with the least age 0.
   4             too many successes without a consensus
   8             too many instances
   16            cancelled
+",
+        ),
+        "waits" => Some(
+            "lintelthyme status --db PATH --now MOMENT: what is open at that moment
+  transition validate assimilate delete purge
+                for each pass the workunits that it would change, if it had no limit,
+                a purge with the least age 0
+  undecided     workunits without a canonical result that are not given up
+  given_up      workunits that are given up: explain mask
+  overdue       instances in progress whose deadline has passed
+  next_deadline the earliest deadline of the others in progress, - where there is none
+  host          a host, with its instances that ended with an error, and those that
+                ended without a reply; the ten hosts with most of both
 ",
         ),
         "scripts" => Some(
@@ -226,7 +252,9 @@ lintelthyme outputs --db PATH --to FOLDER reads a project as a check does, and
 writes each archived canonical output into a file of FOLDER with the name of its
 workunit; with --name NAME, that of this workunit alone. It answers
   outputs FOLDER: made=2 there=1
-where one file of three was there already, with the same bytes. Anything else in a
+where one file of three was there already, with the same bytes. A name that is . or
+.., or ends in -wal, -journal or -shm, has a + after it, since it is that of a
+folder, or of what a database keeps beside its file. Anything else in a
 file's place is reported with the number of the workunit, with status 1, and a disk
 that takes no more with 3; the files before it stay. FOLDER has to be there. While another
 process has the project, there are no outputs of it; a line

@@ -40,6 +40,7 @@ moments
 imports
 passes
 mask
+waits
 scripts
 checks
 backups
@@ -89,6 +90,48 @@ try
 upgrade
 check
 backup
+view
+views
+unsent
+in_progress
+success
+client_error
+no_reply
+didnt_need
+validate_error
+client_detached
+valid
+invalid
+no_check
+inconclusive
+too_late
+init
+ready
+done
+quorum
+target
+max_error
+max_total
+max_success
+delay
+canonical
+deadline
+received
+total
+grants
+rows
+applied
+skipped
+first
+made
+there
+undecided
+given_up
+overdue
+next_deadline
+next
+archived
+version
 status 0
 status 1
 status 2
@@ -176,8 +219,8 @@ fn nearest_to_word(alloc: Global, word: &str) -> Option<&'static str> {
 /// second one is empty where there is none. A word is near to a name that it is, that begins with three or more of its
 /// letters, or that differs by one edit: a letter more, less or another, or two neighbouring letters exchanged.
 ///
-/// One word names the first topic that is near, as `hosts`. `view` or `file`, or a word that is near to these alone,
-/// names the first of its kind, `view workunits` or `file jobs`; `status` is a topic of its own. Of two words the first
+/// One word names the first topic that is near, as `hosts`. `file`, or a word that is near to it alone, names the first of
+/// its kind, `file jobs`; `view` and `status` are topics of their own. Of two words the first
 /// has to be near to `view`, `file` or `status`, and the second to a name of that kind: `view hosts`. Returns `None` if
 /// there is no such topic, or if memory runs out. No clause says which topic is near.
 pub fn nearest(alloc: Global, first: &str, second: &str) -> Option<&'static str> {

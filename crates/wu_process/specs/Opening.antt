@@ -1,6 +1,5 @@
 -- What opening a database by its path gives. No clause can say that the files are at the path.
-use Rattle.std.specs.Prelude.{◌≡◌, ◌≢◌, ◌⊎◌, ◌||◌, ℕ, Bool, false, true, List, codes, eqb, IfSome, IsTrue, None, Option}
-use Rattle.std.specs.List.{ends_with}
+use Rattle.std.specs.Prelude.{◌≡◌, ◌≢◌, ◌⊎◌, ℕ, Bool, false, true, List, codes, IfSome, IsTrue, None, Option}
 use Rattle.sqlite_disk.specs.declared.Disk.{Ghosts}
 use Rattle.sqlite_disk.specs.declared.Files.{Files}
 use Rattle.sqlite_disk.specs.declared.calls.Calls as calls
@@ -20,6 +19,7 @@ use Rattle.sqlite.specs.declared.file.Leftover.{Leftover}
 use Rattle.sqlite.specs.declared.error.Error.{Error}
 use Rattle.sqlite.specs.declared.error.Error.TheVariants.{SqliteFailure}
 use Rattle.sqlite.specs.declared.error.ErrorCode.TheVariants.{CannotOpen, DatabaseBusy, OutOfMemory}
+use Rattle.wu_cli.specs.LogNames.{names_log}
 use Rattle.wu_cli.specs.declared.trouble.Trouble.{Trouble}
 use Rattle.wu_cli.specs.declared.trouble.Trouble.TheVariants as trouble
 use Rattle.wu_core.specs.declared.fault.Fault.TheVariants.{Memory}
@@ -27,10 +27,6 @@ use Rattle.wu_core.specs.declared.fault.Fault.TheVariants.{Memory}
 -- The path that names a database in memory; opening files refuses it.
 abbrev pub in_memory : List ℕ
 in_memory = codes ":memory:"
-
--- Whether a path names a log or a journal of a database, or what SQLite keeps in memory of a log, and no database.
-abbrev pub names_log : List ℕ → Bool
-names_log path = (ends_with eqb path (codes "-wal") || ends_with eqb path (codes "-journal")) || ends_with eqb path (codes "-shm")
 
 -- The trouble of a database that is not opened, because of what lies at its path or beside it, or out of memory.
 abbrev pub IsBar : Trouble → Type 0

@@ -2,7 +2,7 @@
 
 ghost use Rattle.std.specs.Prelude.{◌≡◌, IfErr};
 ghost use Rattle.wu_core.specs.declared.fault.Fault.TheVariants.{Memory};
-ghost use Rattle.wu_process.specs.Opening.{IsBar, names_log};
+ghost use Rattle.wu_process.specs.Opening.{IsBar};
 
 use crate::files::HostFiles;
 use crate::header::SHORTEST_LOG;
@@ -10,7 +10,7 @@ use std::alloc::AllocError;
 use std::fs;
 use std::io::ErrorKind;
 use wu_arguments::ReadFile;
-use wu_cli::Trouble;
+use wu_cli::{Trouble, names_log};
 use wu_core::Fault;
 
 /// The bytes with which each database begins, after its first one.
@@ -25,16 +25,6 @@ pub fn is_no_file(rt: &HostRuntime, path: &str) -> bool {
         Ok(found) => !found.is_file(),
         Err(_) => false,
     }
-}
-
-/// Returns whether the path names a log or a journal of a database, or what SQLite keeps in memory of a log, and no
-/// database.
-pub fn names_log(path: &str) -> bool
-    // It does exactly if it ends as SQLite names these.
-    ensures { result ≡ names_log path.now }
-{
-    let bytes = path.as_bytes();
-    bytes.ends_with(b"-wal") || bytes.ends_with(b"-journal") || bytes.ends_with(b"-shm")
 }
 
 /// Returns how many bytes the file at the path has; 0 if there is none, or if that cannot be found out.
@@ -68,9 +58,22 @@ pub fn has_linked_log(rt: &HostRuntime, path: &str) -> Result<bool, AllocError> 
     Ok(fs::symlink_metadata(rt, log.as_str()).is_ok_and(|found| found.is_symlink()))
 }
 
-/// Returns whether a log or a journal with content, or a link in the place of a log, lies beside the path.
+/// Returns whether what lies at the path itself is no file, as a folder, a pipe or a link.
+fn is_other(rt: &HostRuntime, path: &str) -> bool {
+    fs::symlink_metadata(rt, path).is_ok_and(|found| !found.is_file())
+}
+
+/// Returns whether what lies in the place of the log or of the journal of the database at the path is no file. It is not
+/// opened: a pipe would wait for a writer.
+fn has_other_beside(rt: &HostRuntime, path: &str) -> Result<bool, AllocError> {
+    let log = format!(in rt.alloc(); "{path}-wal")?;
+    let journal = format!(in rt.alloc(); "{path}-journal")?;
+    Ok(is_other(rt, log.as_str()) || is_other(rt, journal.as_str()))
+}
+
+/// Returns whether a log or a journal with content, or something else in the place of one, lies beside the path.
 pub fn is_taken_beside(rt: &HostRuntime, path: &str) -> Result<bool, AllocError> {
-    Ok(has_content_beside(rt, path)? || has_linked_log(rt, path)?)
+    Ok(has_content_beside(rt, path)? || has_other_beside(rt, path)?)
 }
 
 /// Returns whether the file at the path is empty, and a log that holds a page, or a journal with content, lies beside it.
@@ -108,15 +111,16 @@ pub fn is_foreign(rt: &HostRuntime, path: &str) -> Result<bool, Fault>
     }
 }
 
-/// Returns whether what lies at the path of a database's log begins as no log does. The only fault is `Memory`.
+/// Returns whether what lies at the path of a database's log begins as no log does, or whether what lies there or at that
+/// of its journal is no file. The only fault is `Memory`.
 pub fn has_foreign_log(rt: &HostRuntime, path: &str) -> Result<bool, Fault>
     // The only fault is `Memory`.
     ensures { IfErr result (λ fault. fault ≡ Memory) }
 {
-    let log = format!(in rt.alloc(); "{path}-wal")?;
-    if is_no_file(rt, log.as_str()) {
-        return Ok(false);
+    if has_other_beside(rt, path)? {
+        return Ok(true);
     }
+    let log = format!(in rt.alloc(); "{path}-wal")?;
     match HostFiles::new(rt).read(log.as_str(), 0)? {
         Some(bytes) => Ok(
             bytes
@@ -127,13 +131,13 @@ pub fn has_foreign_log(rt: &HostRuntime, path: &str) -> Result<bool, Fault>
     }
 }
 
-/// Returns whether what lies at a path is no file, is a file of something else, was emptied beside its log, or has a file
-/// of something else, or a link, in the place of its log. The only fault is `Memory`.
+/// Returns whether what lies at a path is no file, is a file of something else, was emptied beside its log, or has
+/// something else in the place of its log or its journal. The only fault is `Memory`.
 fn is_barred_at(rt: &HostRuntime, path: &str) -> Result<bool, Fault>
     // The only fault is `Memory`.
     ensures { IfErr result (λ fault. fault ≡ Memory) }
 {
-    if is_no_file(rt, path) || has_foreign_log(rt, path)? || has_linked_log(rt, path)? {
+    if is_no_file(rt, path) || has_foreign_log(rt, path)? {
         return Ok(true);
     }
     Ok(is_emptied(rt, path)? || (!has_log(rt, path)? && is_foreign(rt, path)?))
@@ -142,8 +146,8 @@ fn is_barred_at(rt: &HostRuntime, path: &str) -> Result<bool, Fault>
 /// Refuses a database that must not be opened, because the opening would destroy or make files that are not its own.
 ///
 /// So it is where the path names a log, and where a log or a journal has lost its database, or that is empty. So it is,
-/// too, where no file lies at the path, a file without a log that is no database, or something else, or a link, in the
-/// place of the log. Out of memory is reported as `Memory`.
+/// too, where no file lies at the path, or a file without a log that is no database, and where something else lies in the
+/// place of the log or the journal. Out of memory is reported as `Memory`.
 pub fn bar(rt: &HostRuntime, path: &str) -> Result<(), Trouble>
     // A refusal is reported as a database that cannot be opened, or as out of memory.
     ensures { IfErr result IsBar }

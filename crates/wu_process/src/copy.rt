@@ -16,7 +16,7 @@ use std::fs;
 use std::io::{self, ErrorKind};
 use std::os::unix::fs::MetadataExt;
 use std::time::SystemTime;
-use wu_cli::Reason;
+use wu_cli::{Reason, names_log};
 
 /// The bytes of the files of a database.
 #[derive(Drop)]
@@ -126,28 +126,42 @@ fn read_at_once<'a>(
     }
 }
 
-/// Returns why a path leads to no file: where its log is there, the database has gone without it.
-fn why_no_file(rt: &HostRuntime, path: &str, error: &io::Error) -> Reason {
-    let (Ok(is_left), Ok(is_linked)) = (has_content_beside(rt, path), has_linked_log(rt, path))
-    else {
-        return Reason::Memory;
-    };
+/// Refuses the name of a log, and a link, or something else, in the place of a log or a journal.
+fn refuse_beside(rt: &HostRuntime, path: &str) -> Result<(), Reason> {
+    if names_log(path) {
+        return Err(Reason::LogName);
+    }
+    if has_linked_log(rt, path).map_err(|_| Reason::Memory)? {
+        return Err(Reason::LinkedLog);
+    }
+    if has_foreign_log(rt, path).map_err(|_| Reason::Memory)? {
+        return Err(Reason::ForeignLog);
+    }
+    Ok(())
+}
+
+/// Returns why no file lies at a path: where its log is there, the database has gone without it.
+fn why_no_file(rt: &HostRuntime, path: &str) -> Reason {
+    match (refuse_beside(rt, path), has_content_beside(rt, path)) {
+        (Err(reason), _) => reason,
+        (Ok(()), Ok(true)) => Reason::LogAlone,
+        (Ok(()), Ok(false)) => Reason::NoFile,
+        (Ok(()), Err(_)) => Reason::Memory,
+    }
+}
+
+/// Returns why a path leads to no file.
+fn why_not_found(rt: &HostRuntime, path: &str, error: &io::Error) -> Reason {
     match error.kind() {
-        ErrorKind::NotFound if is_left => Reason::LogAlone,
-        ErrorKind::NotFound if is_linked => Reason::LinkedLog,
+        ErrorKind::NotFound => why_no_file(rt, path),
         _ => Reason::of_file(error),
     }
 }
 
 /// Refuses a file without a log that begins as no database does, before more of it is read; one that was emptied beside
-/// its log; and one with something else, or a link, in the place of its log.
+/// its log; and what `refuse_beside` refuses.
 fn refuse_foreign(rt: &HostRuntime, path: &str) -> Result<(), Reason> {
-    if has_linked_log(rt, path).map_err(|_| Reason::Memory)? {
-        return Err(Reason::LinkedLog);
-    }
-    if has_foreign_log(rt, path).map_err(|_| Reason::Memory)? {
-        return Err(Reason::Damaged);
-    }
+    refuse_beside(rt, path)?;
     if is_emptied(rt, path).map_err(|_| Reason::Memory)? {
         return Err(Reason::LogAlone);
     }
@@ -164,7 +178,7 @@ fn read_database<'a>(rt: &HostRuntime, path: &'a str) -> Result<FileBytes<'a>, R
     // The bytes carry the path that was asked for. What the bytes are is not stated.
     ensures { IfOk result (λ bytes. bytes.path.now ≡ path.now) }
 {
-    let real = fs::canonicalize(rt, path).map_err(|error| why_no_file(rt, path, &error))?;
+    let real = fs::canonicalize(rt, path).map_err(|error| why_not_found(rt, path, &error))?;
     let log = format!(in rt.alloc(); "{}-wal", real.as_str()).map_err(|_| Reason::Memory)?;
     refuse_foreign(rt, real.as_str())?;
     let bytes = read_at_once(rt, path, real.as_str(), log.as_str())?;

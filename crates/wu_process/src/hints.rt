@@ -15,6 +15,7 @@ use wu_feed::{LONGEST_TEMPLATE, read_template};
 /// The file of a database before the words are done.
 #[derive(Drop)]
 enum Before {
+    /// There was none, or an empty one.
     Absent,
     /// It was last written to at this moment, as far as that is known.
     Written(Option<SystemTime>),
@@ -39,6 +40,7 @@ fn database_of(order: &Order) -> Option<&str> {
 /// Returns how the file at the path is.
 fn look_at(rt: &HostRuntime, path: &str) -> Before {
     match fs::metadata(rt, path) {
+        Ok(found) if found.len() == 0 => Before::Absent,
         Ok(found) => Before::Written(found.modified().ok()),
         Err(error) if error.kind() == ErrorKind::NotFound => Before::Absent,
         Err(_) => Before::Written(None),

@@ -4,15 +4,15 @@ ghost use Rattle.std.specs.Prelude.{codes, ◌≡◌, ◌≤◌, true, false, Is
 ghost use Rattle.sqlite_std_file.specs.File.{file_is_usable, IsFresh};
 ghost use Rattle.sqlite_wal.specs.Files.{image_at};
 ghost use Rattle.sqlite.specs.Opening.{is_open_error};
-ghost use Rattle.wu_process.specs.Opening.{in_memory, IsEarly, IsOpenedAt, IsUnopened, names_log};
+ghost use Rattle.wu_cli.specs.LogNames.{names_log};
+ghost use Rattle.wu_process.specs.Opening.{in_memory, IsEarly, IsOpenedAt, IsUnopened};
 
-use crate::beside::names_log;
 use crate::check::options;
 use sqlite::{Connection, Error, ErrorCode, FileFrom, FileStore, Files, Leftover, Start};
 use sqlite_std_file::OpenError;
 use std::fs;
 use std::io::ErrorKind;
-use wu_cli::Work;
+use wu_cli::{Work, names_log};
 
 /// The fewest and the most pages that are kept in memory. A page of a new database has 4,096 bytes.
 const FEWEST_PAGES: usize = 64;

@@ -5,7 +5,7 @@ ghost use Rattle.std.specs.Prelude.{IsTrue};
 ghost use Rattle.wu_process.specs.Backups.{may_become};
 ghost use Rattle.wu_process.specs.Outputs.{DropsKept, KeepsFiles, KeepsOfPath};
 
-use crate::beside::{is_no_file, names_log};
+use crate::beside::is_no_file;
 use crate::check::{open_copy, options};
 use crate::copy::copy_files;
 use crate::files::HostFiles;
@@ -74,10 +74,6 @@ impl KeepFile for HostFiles<'_> {
     ghost keeps = { λ _ path bytes. may_become path bytes };
 
     fn keep(&self, path: &str, bytes: &[u8]) -> Result<Kept, Unmade> {
-        // A database beside it would take these bytes of a volunteer for its log.
-        if names_log(path) {
-            return Err(Unmade::LogName);
-        }
         let rt = self.runtime();
         match fs::symlink_metadata(rt, path) {
             Ok(_) if has_bytes(rt, path, bytes)? => Ok(Kept::There),

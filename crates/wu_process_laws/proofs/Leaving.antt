@@ -132,8 +132,10 @@ refusal_told (refusal.Fault f) none = fault_told f none
 
 reason_told : (r : Reason) → reason_status r ≡ 0 → ⊥
 reason_told reason.NoFile none = absurd (omega (arith, none))
+reason_told reason.LogName none = absurd (omega (arith, none))
 reason_told reason.LogAlone none = absurd (omega (arith, none))
 reason_told reason.LinkedLog none = absurd (omega (arith, none))
+reason_told reason.ForeignLog none = absurd (omega (arith, none))
 reason_told reason.InUse none = absurd (omega (arith, none))
 reason_told reason.NoDatabase none = absurd (omega (arith, none))
 reason_told reason.OtherKind none = absurd (omega (arith, none))

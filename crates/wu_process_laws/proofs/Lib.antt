@@ -2,4 +2,5 @@ mod BackedUp
 mod Checked
 mod KeptOutputs
 mod Leaving
+mod OutputNames
 mod RefilledLemmas

@@ -1,13 +1,14 @@
 -- What the files of outputs are.
-use Rattle.std.specs.Prelude.{◌≡◌, ℕ, List, length, Ok}
+use Rattle.std.specs.Prelude.{◌≡◌, ℕ, true, List, length, Ok}
 use Rattle.sqlite_wal.specs.Recovery.{Image}
 use Rattle.wu_check.specs.Findings.{IsSoundAs}
+use Rattle.wu_core.specs.Names.{is_name}
 use Rattle.wu_core.specs.World.{World}
 use Rattle.wu_lives.specs.Runs.{HoldsWorld}
 use Rattle.wu_store.specs.StandsFor.{KnowsClasses}
 use Rattle.wu_views.specs.Lines.{archived_lines}
 use Rattle.wu_arguments.specs.declared.order.OutputFiles.{OutputFiles}
-use Rattle.wu_cli.specs.Outputs.{HaveFiles, total, wanted_of}
+use Rattle.wu_cli.specs.Outputs.{HaveFiles, output_path, total, wanted_of}
 use Rattle.wu_cli.specs.declared.backup.Counts.{Counts}
 use Rattle.wu_cli.specs.declared.outputs.KeptCounts.{KeptCounts}
 use Rattle.wu_process.specs.Outputs.{KeepsOfCopy}
@@ -27,3 +28,8 @@ abbrev pub EachOutputHasItsFile : {F : Type 0} → (F → List ℕ → List ℕ 
 EachOutputHasItsFile {F} keeps =
     (files : F) (path : List ℕ) (asked : OutputFiles) (counts : KeptCounts) (it : KeepsOfCopy (keeps files) asked path (Ok counts))
     → AreItsOutputs (keeps files) (image_of_bytes it.copy.bytes) asked counts
+
+-- Names of two workunits give two paths in a folder.
+abbrev pub EachNameHasItsFile : Type 0
+EachNameHasItsFile =
+    (folder one other : List ℕ) → is_name one ≡ true → is_name other ≡ true → output_path folder one ≡ output_path folder other → one ≡ other

@@ -4,7 +4,7 @@
 ghost use Rattle.wu_process.specs.Processes.{RunsProcess};
 ghost use Rattle.wu_process_laws.specs.BackedUp.{EachBackupHolds};
 ghost use Rattle.wu_process_laws.specs.Checked.{EachCheckIsTrue};
-ghost use Rattle.wu_process_laws.specs.KeptOutputs.{EachOutputHasItsFile};
+ghost use Rattle.wu_process_laws.specs.KeptOutputs.{EachNameHasItsFile, EachOutputHasItsFile};
 ghost use Rattle.wu_process_laws.specs.Runs.{BeginsWhereOneEnded, BeginsWhereOneStopped, LeavesItsWork, LeavesItsWorkUnclosed};
 
 use sqlite::{FileFrom, Start};
@@ -97,5 +97,7 @@ pub fn each_output_has_its_file<F: KeepFile>()
     // The files that were read hold a sound project, where no row is shorter than its table. Of
     // each world with classes that they hold, each output that was asked for has its file, with
     // exactly its bytes, and the counts are the number of these.
-    ensures { EachOutputHasItsFile F.KeepFile.keeps }
+    ensures files { EachOutputHasItsFile F.KeepFile.keeps }
+    // The outputs of two workunits never have one file.
+    ensures apart { EachNameHasItsFile }
 {}

@@ -4,7 +4,7 @@ use Rattle.sqlite_disk.specs.Events.{Event, replay}
 use Rattle.sqlite_wal.specs.Recovery.{Image}
 use Rattle.sqlite.specs.Files.{file_state, IsBlankAs}
 use Rattle.sqlite.specs.Start.{FindsIn}
-use Rattle.wu_process.specs.Opening.{names_log}
+use Rattle.wu_cli.specs.LogNames.{names_log}
 use Rattle.wu_process.proofs.opening.open_at.Goals as goal
 
 abbrev image : List ℕ → List ℕ → Image
