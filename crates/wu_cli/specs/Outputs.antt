@@ -70,9 +70,9 @@ module _ {F : Type 0} (keeps : F → List ℕ → List ℕ → Type 0) where
   abbrev pub KeepsRow : OutputKeeper F → OutputKeeper F → Archived → Type 0
   KeepsRow old new row = KeepsRowIf (is_wanted old.asked.now.name row) old new row
 
--- An output has no file, for this reason.
+-- The output of this workunit has no file, or memory ran out.
 abbrev pub IsLost : Archived → LostOutput → Type 0
-IsLost row lost = (why : Unmade) × (lost ≡ record { number = row.number; why = why })
+IsLost row lost = ((why : Unmade) × (lost ≡ record { number = row.number; name = row.name; why = why })) ⊎ (lost.why ≡ unmade.Memory)
 
 -- The output of a row is wanted and has no file, which is noted.
 abbrev pub LosesRow : {F : Type 0} → OutputKeeper F → OutputKeeper F → Archived → Type 0
@@ -134,13 +134,13 @@ kept_line folder counts =
     codes "outputs " ++ (folder ++ (codes ": made=" ++ (decimal counts.made ++ (codes " there=" ++ (decimal counts.there ++ line_end)))))
 
 -- The line that reports an output without a file.
-abbrev pub lost_line_of : ℕ → Unmade → List ℕ
-lost_line_of number unmade.Memory = codes "F14 Memory" ++ line_end
-lost_line_of number why =
-    codes "cannot write the output of workunit " ++ (decimal number ++ (codes ": " ++ (unmade_words why ++ line_end)))
+abbrev pub lost_line_of : ℕ → List ℕ → Unmade → List ℕ
+lost_line_of number name unmade.Memory = codes "F14 Memory" ++ line_end
+lost_line_of number name why =
+    codes "cannot write the output of workunit " ++ (decimal number ++ (codes ", " ++ (name ++ (codes ": " ++ (unmade_words why ++ line_end)))))
 
 abbrev pub lost_line : LostOutput → List ℕ
-lost_line lost = lost_line_of lost.number lost.why
+lost_line lost = lost_line_of lost.number lost.name lost.why
 
 -- The line that reports that the folder is not there.
 abbrev pub no_folder_line : List ℕ

@@ -2,7 +2,7 @@
 
 ghost use Rattle.std.specs.Prelude.{◌≡◌, IfOk, IfSome, string_bytes, suc};
 ghost use Rattle.wu_report.specs.Writing.{WritesTo};
-ghost use Rattle.wu_cli.specs.Outputs.{ending_of, HasFile, is_wanted, KeepsOutputs, KeepsSound, lost_line, output_path, total, trouble_of_walk};
+ghost use Rattle.wu_cli.specs.Outputs.{ending_of, HasFile, IsLost, is_wanted, KeepsOutputs, KeepsSound, lost_line, output_path, total, trouble_of_walk};
 
 use crate::backup::{Unmade, count_sound};
 use crate::log_names::is_reserved;
@@ -11,7 +11,7 @@ use crate::trouble::Trouble;
 use sqlite::{Alter, Connection};
 use std::alloc::{AllocError, Global};
 use std::io::Write;
-use wu_arguments::OutputFiles;
+use wu_arguments::{OutputFiles, Word};
 use wu_core::{Archived, Fault, Name};
 use wu_report::Piece;
 use wu_views::{ArchiveListing, Takes, walk};
@@ -49,10 +49,12 @@ pub struct KeptCounts {
 }
 
 /// An archived workunit whose output has no file.
-#[derive(Clone, Copy)]
+#[derive(Drop)]
 pub struct LostOutput {
     /// The number of the workunit.
     pub number: u64,
+    /// Its name; empty where memory ran out.
+    pub name: Word,
     pub why: Unmade,
 }
 
@@ -74,6 +76,21 @@ fn is_wanted(asked: &OutputFiles, row: &Archived) -> bool
     match &asked.name {
         Some(name) => row.canonical.is_some() && name.as_str() == row.name.as_str(),
         None => row.canonical.is_some(),
+    }
+}
+
+/// Returns an archived workunit whose output has no file for this reason, or for want of memory.
+fn lost_of(alloc: Global, row: &Archived, why: Unmade) -> LostOutput
+    ensures { IsLost row.now result }
+{
+    let number = row.number;
+    match Word::from_text(alloc, row.name.as_str()) {
+        Ok(name) => LostOutput { number, name, why },
+        Err(_) => LostOutput {
+            number,
+            name: Word::from_string(String::new(alloc)),
+            why: Unmade::Memory,
+        },
     }
 }
 
@@ -147,8 +164,7 @@ impl<F: KeepFile> Takes<Archived> for OutputKeeper<'_, F> {
                 Ok(())
             }
             Err(why) => {
-                let number = row.number;
-                self.lost = Some(LostOutput { number, why });
+                self.lost = Some(lost_of(self.alloc, row, why));
                 Err(Fault::Output)
             }
         }
@@ -209,9 +225,9 @@ pub fn keep_sound<S: Alter, F: KeepFile>(
 }
 
 /// Writes the line that reports an output without a file, and flushes.
-pub(crate) fn line_of_lost<W: Write>(out: &mut W, lost: LostOutput) -> Result<(), Fault>
+pub(crate) fn line_of_lost<W: Write>(out: &mut W, lost: &LostOutput) -> Result<(), Fault>
     // With Ok exactly the line with the workunit and the reason is written, and else a prefix of it.
-    ensures { WritesTo W.contents out.old out.new (lost_line lost) result }
+    ensures { WritesTo W.contents out.old out.new (lost_line lost.now) result }
 {
     match lost.why {
         Unmade::Memory => line_of_fault(out, Fault::Memory),
@@ -220,6 +236,8 @@ pub(crate) fn line_of_lost<W: Write>(out: &mut W, lost: LostOutput) -> Result<()
             &[
                 Piece::Text("cannot write the output of workunit "),
                 Piece::Number(lost.number),
+                Piece::Text(", "),
+                Piece::Text(lost.name.as_str()),
                 Piece::Text(": "),
                 Piece::Text(why.words()),
                 Piece::Text("\n"),

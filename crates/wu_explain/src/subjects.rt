@@ -254,10 +254,10 @@ workunit; with --name NAME, that of this workunit alone. It answers
   outputs FOLDER: made=2 there=1
 where one file of three was there already, with the same bytes. A name that is . or
 .., or ends in -wal, -journal or -shm, has a + after it, since it is that of a
-folder, or of what a database keeps beside its file. Anything else in a
-file's place is reported with the number of the workunit, with status 1, and a disk
-that takes no more with 3; the files before it stay. FOLDER has to be there. While another
-process has the project, there are no outputs of it; a line
+folder, or of what a database keeps beside its file. Anything else in a file's place
+is reported with the number and the name of the workunit, with status 1, and a disk
+that takes no more with 3; the files before it stay. FOLDER has to be there. While
+another process has the project, there are no outputs of it; a line
   outputs --to FOLDER
 of a session writes them between two commands, and at the end of a script after the
 others. Of a run that was stopped a NAME+part may be left, which the next one

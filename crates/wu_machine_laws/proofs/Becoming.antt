@@ -1,5 +1,5 @@
 -- A sound world whose workunits are rewritten one by one, or taken out, is sound.
-use Rattle.std.proofs.Common.{◌≡◌, true, List, [], ◌∷◌, ◌++◌, append_assoc, append-nil, ◌≤◌, refl, sym, ap, subst, ◌∙◌}
+use Rattle.std.proofs.Common.{◌≡◌, true, List, [], ◌∷◌, ◌++◌, append_assoc, append-nil, ◌≤◌}
 use Rattle.std.proofs.lemmas.List.Elements.{All-head, All-tail}
 use Rattle.std.specs.List.{All, flat_map}
 use Rattle.wu_core.specs.Limits.{class_version}
@@ -10,7 +10,7 @@ use Rattle.wu_core.specs.declared.workunit.Workunit.{Workunit}
 use Rattle.wu_rules.specs.Consistent.{is_done, Rewrites}
 use Rattle.wu_core.specs.Storable.{IsStoredArchived, IsStorable}
 use Rattle.wu_machine.specs.Sound.{IsRecorded, IsSound}
-use Rattle.wu_machine_laws.proofs.Lasts.{Leads, lasts_rewritten, lasts_same, lasts_then, lasts_without}
+use Rattle.wu_machine_laws.proofs.Lasts.{Leads, lasts_rewritten, lasts_without, leads_same, leads_then}
 use Rattle.wu_machine_laws.proofs.Middles.{around}
 use Rattle.wu_machine_laws.proofs.Rewriting.{sound_rewritten, sound_without}
 
@@ -25,27 +25,17 @@ module _ (world : World) where
   abbrev pub holding : List Workunit → List Grant → List Archived → World
   holding ws gs rows = record world { workunits = ws; grants = gs; archived = rows }
 
-  -- with others that are the same
-  pub same_holding : (P : World → Type 0) (ws vs : List Workunit) (gs hs : List Grant) (rows more : List Archived) → ws ≡ vs → gs ≡ hs → rows ≡ more
-      → P (holding ws gs rows) → P (holding vs hs more)
-  same_holding P ws vs gs hs rows more e f g it = subst (λ x. P (holding x hs more)) e
-      (subst (λ y. P (holding ws y more)) f (subst (λ z. P (holding ws gs z)) g it))
-
 module _ (world : World) (young : class_version ≤ world.version) where
   -- one of them
   became : (us : List Workunit) (w : Workunit) (ws : List Workunit) (gs : List Grant) (rows : List Archived) (vs : List Workunit) (hs : List Grant)
       (more : List Archived) → Becomes w vs hs more
       → IsSound (holding world (us ++ w ∷ ws) gs rows) → Leads (holding world (us ++ w ∷ ws) gs rows) (holding world ((us ++ vs) ++ ws) (gs ++ hs) (rows ++ more))
   became us w ws gs rows [] hs more is sound = (
-    same_holding world IsSound (us ++ ws) ((us ++ []) ++ ws) gs (gs ++ hs) rows (rows ++ more) (ap (λ l. l ++ ws) (sym (append-nil us)))
-        (sym (append-nil gs) ∙ ap (λ l. gs ++ l) (sym is.0)) (sym (append-nil rows) ∙ ap (λ l. rows ++ l) (sym is.1))
-        (sound_without (holding world [] gs rows) young us w ws sound),
+    simp (append-nil, is.0, is.1) (sound_without (holding world [] gs rows) young us w ws sound),
     lasts_without world us w ws gs hs rows more is.2 (around (IsRecorded (holding world (us ++ w ∷ ws) gs rows)) us w ws sound.recorded).1,
   )
   became us w ws gs rows (v ∷ []) hs more is sound = (
-    same_holding world IsSound (us ++ v ∷ ws) ((us ++ v ∷ []) ++ ws) (gs ++ hs) (gs ++ hs) (rows ++ more) (rows ++ more) (sym (append_assoc us (v ∷ []) ws)) refl
-        refl
-        (sound_rewritten (holding world [] gs rows) young us w ws v hs more is.0 sound is.1 is.2),
+    simp append_assoc (sound_rewritten (holding world [] gs rows) young us w ws v hs more is.0 sound is.1 is.2),
     lasts_rewritten world us w ws v gs hs rows more (record {
       number = is.0.number;
       name = is.0.name;
@@ -63,9 +53,7 @@ module _ (world : World) (young : class_version ≤ world.version) where
     became_all : (us ws : List Workunit) (gs : List Grant) (rows : List Archived) → All (λ w. Becomes w (change w) (gives w) (files w)) ws
         → IsSound (holding world (us ++ ws) gs rows)
         → Leads (holding world (us ++ ws) gs rows) (holding world (us ++ flat_map change ws) (gs ++ flat_map gives ws) (rows ++ flat_map files ws))
-    became_all us [] gs rows all sound =
-        same_holding world (Leads (holding world (us ++ []) gs rows)) (us ++ []) (us ++ []) gs (gs ++ []) rows (rows ++ []) refl (sym (append-nil gs))
-        (sym (append-nil rows)) (sound, lasts_same (holding world (us ++ []) gs rows))
+    became_all us [] gs rows all sound = simp append-nil (leads_same (holding world us gs rows) (simp append-nil at sound))
     became_all us (w ∷ ws) gs rows all sound =
         let first = holding world (us ++ w ∷ ws) gs rows in
         let middle = holding world ((us ++ change w) ++ ws) (gs ++ gives w) (rows ++ files w) in
@@ -74,11 +62,7 @@ module _ (world : World) (young : class_version ≤ world.version) where
         (All-head (λ v. Becomes v (change v) (gives v) (files v)) w ws all) sound in
         let rest : Leads middle last = became_all (us ++ change w) ws (gs ++ gives w) (rows ++ files w)
         (All-tail (λ v. Becomes v (change v) (gives v) (files v)) w ws all) one.0 in
-        same_holding world (Leads first) ((us ++ change w) ++ flat_map change ws) (us ++ (change w ++ flat_map change ws)) ((gs ++ gives w) ++ flat_map gives ws)
-        (gs ++ (gives w ++ flat_map gives ws))
-        ((rows ++ files w) ++ flat_map files ws) (rows ++ (files w ++ flat_map files ws))
-        (append_assoc us (change w) (flat_map change ws)) (append_assoc gs (gives w) (flat_map gives ws)) (append_assoc rows (files w) (flat_map files ws))
-        (rest.0, lasts_then first middle last one.1 rest.1)
+        simp append_assoc at (leads_then first middle last one rest)
 
     -- all of them, at once
     pub sound_changed : IsSound world → All (λ w. Becomes w (change w) (gives w) (files w)) world.workunits

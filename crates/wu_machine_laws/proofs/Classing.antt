@@ -1,15 +1,13 @@
 -- Hosts keep their classes but for files of classes, and workunits whose active instances are of one class stay so.
-use Rattle.std.proofs.Common.{◌≡◌, ◌⊎◌, ℕ, zero, suc, ◌+◌, ◌==◌, nat_lt, Bool, true, false, List, [], ◌∷◌, map, length, get_or, Option, Some, None, IfSome, Result, Ok, Err, bytes_eq, refl, sym, ap, subst, ◌∙◌, inl, inr, eqb-true, eq-eqb}
-use Rattle.std.proofs.lemmas.Bool.{cases_Bool}
+use Rattle.std.proofs.Common.{◌≡◌, ◌⊎◌, ℕ, zero, suc, ◌==◌, nat_lt, true, false, List, [], ◌∷◌, map, length, get_or, Option, Some, None, IfSome, Ok, bytes_eq, refl, sym, ap, subst, ◌∙◌, inl, inr, eq-eqb, arith}
+use Rattle.std.proofs.Math.ListN.{get_or-map}
+use Rattle.std.proofs.lemmas.List.{length-map}
 use Rattle.std.proofs.lemmas.List.Elements.{All-append, All-cons, All-head, All-map, All-nil, All-tail, All-weaker}
-use Rattle.std.specs.List.{All, enumerate_from, find, flat_map}
-use Rattle.std.specs.Prelude.{if◌then◌else◌, IsSomeAnd}
+use Rattle.std.specs.List.{All, enumerate_from, flat_map}
+use Rattle.std.specs.Prelude.{⊤, if◌then◌else◌, IsSomeAnd}
 use Rattle.wu_core.specs.Classes.{class_of}
-use Rattle.wu_core.specs.Limits.{most_workunits}
 use Rattle.wu_core.specs.Parameters.{Parameters}
-use Rattle.wu_core.specs.World.{Import, World, empty_world}
-use Rattle.wu_core.specs.declared.fault.Fault.{Fault}
-use Rattle.wu_core.specs.declared.fault.Fault.TheVariants.{OldSchema, TooMany}
+use Rattle.wu_core.specs.World.{World, empty_world}
 use Rattle.wu_core.specs.declared.import.ImportKind.TheVariants as kind
 use Rattle.wu_core.specs.declared.states.Status.TheVariants as status
 use Rattle.wu_core.specs.declared.workunit.HostClass.{HostClass}
@@ -24,7 +22,6 @@ use Rattle.wu_feed.specs.declared.reports.ReportRow.{ReportRow}
 use Rattle.wu_feed.specs.declared.sends.SendRow.{SendRow}
 use Rattle.wu_rules.specs.Cancelling.{cancelled}
 use Rattle.wu_rules.specs.Consistent.{IsOneClass}
-use Rattle.wu_rules.specs.Counts.{has_active, is_undecided}
 use Rattle.wu_rules.specs.Instances.{is_active, is_in_progress}
 use Rattle.wu_rules.specs.Reporting.{report_verdict_in}
 use Rattle.wu_rules.specs.Sending.{send_verdict_in}
@@ -35,24 +32,25 @@ use Rattle.wu_rules.specs.declared.verdicts.ReportVerdict.TheVariants as report
 use Rattle.wu_rules.specs.Due.{chosen}
 use Rattle.wu_rules_laws.proofs.Alike.{ViablyAlike, alike_before, idle_is_one_class, rules_keep_one_class, told_of_class, viably_alike}
 use Rattle.wu_rules_laws.specs.Rows.{MayBeReported}
-use Rattle.wu_machine.proofs.StorableLemmas.{code_applied}
-use Rattle.wu_machine.specs.Batches.{first_taken, new_workunit, unless_taken, with_jobs}
+use Rattle.wu_machine.proofs.StorableLemmas.{code_applied, found_is}
+use Rattle.wu_machine.specs.Batches.{new_workunit}
 use Rattle.wu_machine.specs.FileRows.{Rule, after_row, after_rows, report_rule, row_verdict, row_verdicts, send_rule}
-use Rattle.wu_machine.specs.Imports.{batch_given, batch_read, Given, has_content, import_of, imported_after, jobs_kept, reported_given, rows_read, sent_given}
-use Rattle.wu_machine.specs.Machine.{cancel_done, done_now, HasValues, fold_steps, is_limit_right, present_version, reply, step}
+use Rattle.wu_machine.specs.Imports.{batch_given, reported_given, sent_given}
+use Rattle.wu_machine.specs.Machine.{done_now, HasValues, is_upgrade, present_version, reply, step}
 use Rattle.wu_machine.specs.Passes.{images, is_among}
 use Rattle.wu_machine.specs.Requests.{AskBatch, AskCancel, AskClasses, AskPass, AskReported, AskSent, AskUpgrade, Imported, Request}
 use Rattle.wu_machine.specs.Sound.{IsSound}
 use Rattle.wu_machine.specs.Worlds.{with_named, workunit_named}
 use Rattle.wu_machine_laws.specs.Files.{MayReport, OfInstance}
-use Rattle.wu_machine_laws.specs.Lasting.{AreOneClass, ClassesStay, ComeInTime, EachAsked, IdleWorldsAreOneClass, IsInTime, IsNoClasses, LeavesOneClass, OneClassSince, OneClassStays, OneClassStaysByStep}
-use Rattle.wu_machine_laws.proofs.FileLaws.{found_passes, some_of}
-use Rattle.wu_machine_laws.proofs.LeavingLaws.{asked, By, each_named, either_by, Keeps, leaves_others, reports_keep, rows_change, sends_keep}
-use Rattle.wu_machine_laws.proofs.Middles.{Pairs, to_pairs}
+use Rattle.wu_machine_laws.specs.Lasting.{AreOneClass, ClassesStay, ComeInTime, IdleWorldsAreOneClass, IsInTime, IsNoClasses, LeavesOneClass, OneClassSince, OneClassStays, OneClassStaysByStep}
+use Rattle.wu_machine_laws.proofs.FileLaws.{found_passes, send_zero, some_of}
+use Rattle.wu_machine_laws.proofs.LeavingLaws.{each_named, Keeps, leaves_others, reports_keep, rows_change, sends_keep}
+use Rattle.wu_machine_laws.proofs.Middles.{from_pairs, Pairs, to_pairs}
+use Rattle.wu_machine_laws.proofs.Results.{asked, batch_by, By, cancel_by, either, file_by, import_by, not_older, pass_by, row_by, rows_by}
 use Rattle.wu_machine_laws.proofs.RowLaws.{takes_report}
 use Rattle.wu_machine_laws.proofs.SoundLemmas.{empty_sound}
 use Rattle.wu_machine_laws.proofs.SoundParts.{Differ}
-use Rattle.wu_machine_laws.proofs.SoundRows.{found_named, send_applied}
+use Rattle.wu_machine_laws.proofs.SoundRows.{found_named}
 use Rattle.wu_machine_laws.proofs.SoundSteps.{sound_step}
 
 -- ---- the classes of hosts
@@ -62,60 +60,28 @@ abbrev SameClasses : World → World → Type 0
 SameClasses world after = after.classes ≡ world.classes
 
 rows_same : {Row : Type 0} (rule : Rule Row) (rows : List Row) (world : World) → SameClasses world (after_rows rule world rows)
-rows_same rule [] world = refl
-rows_same rule (row ∷ rows) world = rows_same rule rows (after_row rule world row) ∙ by (row_verdict rule world row == 0)
-  where
-    by : (b : Bool) → SameClasses world (if b then with_named world (rule.workunit row) (rule.image row) else world)
-    by true = refl
-    by false = refl
-
-read_same : {Row : Type 0} (rule : Rule Row) (given : Given) (world : World) (rows : Result (List Row) Fault)
-    → By (SameClasses world) world (rows_read rule given world rows)
-read_same rule given world (Err fault) = refl
-read_same rule given world (Ok rows) = rows_same rule rows world
-
-jobs_same : (given : Given) (world : World) (params : Parameters) (jobs : List Job) (taken : Option (ℕ × List ℕ))
-    → By (SameClasses world) world (jobs_kept given world jobs (unless_taken world params jobs taken))
-jobs_same given world params jobs (Some place) = refl
-jobs_same given world params jobs None = by (nat_lt (most_workunits + 1) (world.next_number + length jobs))
-  where
-    by : (b : Bool) → By (SameClasses world) world (jobs_kept given world jobs (if b then Err TooMany else Ok (with_jobs world params jobs)))
-    by true = refl
-    by false = refl
-
-batch_same : (given : Given) (world : World) (params : Result Parameters Fault) (jobs : Result (List Job) Fault)
-    → By (SameClasses world) world (batch_read given world params jobs)
-batch_same given world (Err fault) jobs = refl
-batch_same given world (Ok params) (Err fault) = refl
-batch_same given world (Ok params) (Ok jobs) = jobs_same given world params jobs (first_taken world jobs)
-
--- an import that came before leaves what holds
-import_by : (P : World → Type 0) (world : World) (given : Given) → P world → By P world (imported_after world given None) → (found : Option Import)
-    → By P world (imported_after world given found)
-import_by P world given same new (Some import) = either_by P (has_content given import) world _ _ same same
-import_by P world given same new None = new
-
-cancel_same : (world : World) (name : List ℕ) (found : Option Workunit) → By (SameClasses world) world (cancel_done world name found)
-cancel_same world name None = refl
-cancel_same world name (Some w) = either_by (SameClasses world) (is_undecided w) world _ _ refl refl
+rows_same rule rows world = rows_by rule (SameClasses world) (λ row. ⊤) (λ between row any applied same. same) rows (λ k d low. tt) world refl
 
 done_same : (world : World) (request : Request) → IsNoClasses request → By (SameClasses world) world (done_now world request)
 done_same world (AskBatch name template file) other =
     let given = batch_given name template file in
-    import_by (SameClasses world) world given refl (batch_same given world (template_of template) (jobs_of_file file)) (import_of world given)
+    import_by (SameClasses world) world refl given (λ new. batch_by (SameClasses world) world refl given (template_of template) (jobs_of_file file)
+    (λ params jobs template_is file_is free few. refl))
 done_same world (AskSent name file) other =
     let given = sent_given name file in
-    import_by (SameClasses world) world given refl (read_same (send_rule world.classes) given world (sends_of_file file)) (import_of world given)
+    import_by (SameClasses world) world refl given (λ new. file_by (SameClasses world) world refl (send_rule world.classes) given (sends_of_file file)
+    (λ rows is. rows_same (send_rule world.classes) rows world))
 done_same world (AskReported name file) other =
     let given = reported_given name file in
-    import_by (SameClasses world) world given refl (read_same report_rule given world (reports_of_file file)) (import_of world given)
+    import_by (SameClasses world) world refl given (λ new. file_by (SameClasses world) world refl report_rule given (reports_of_file file)
+    (λ rows is. rows_same report_rule rows world))
 done_same world (AskClasses name file) other = absurd other
-done_same world (AskPass pass now limit min_age) other = either_by (SameClasses world) (is_limit_right pass limit min_age) world _ _ refl refl
-done_same world (AskCancel name) other = cancel_same world name (workunit_named world name)
+done_same world (AskPass pass now limit min_age) other = pass_by (SameClasses world) world refl pass now limit min_age (λ right. refl)
+done_same world (AskCancel name) other = cancel_by (SameClasses world) world refl name (λ w is undecided. refl)
 done_same world AskUpgrade other = refl
 
 step_same : (world : World) (request : Request) → IsNoClasses request → SameClasses world (step world request)
-step_same world request other = asked (SameClasses world) world request refl (done_same world request other)
+step_same world request other = asked (SameClasses world) world refl request (λ younger. done_same world request other)
 
 pub classes_stay : ClassesStay
 classes_stay world [] all = refl
@@ -123,43 +89,26 @@ classes_stay world (request ∷ requests) all =
     classes_stay (step world request) requests (All-tail IsNoClasses request requests all) ∙ step_same world request (All-head IsNoClasses request requests all)
 
 pub idle_worlds : IdleWorldsAreOneClass
-idle_worlds world idle =
-    All-weaker (λ (w : Workunit). has_active w ≡ false) (IsOneClass world.classes) (λ w none. idle_is_one_class world.classes w none) world.workunits idle
+idle_worlds world idle k d low = idle_is_one_class world.classes (get_or world.workunits k d) (idle k d low)
 
 -- ---- workunits of different names
 
--- those of the same names differ from what these differ from
-differ_all : (w v : Workunit) → v.name ≡ w.name → (ws vs : List Workunit) → map (λ u. u.name) vs ≡ map (λ u. u.name) ws → All (Differ w) ws
-    → All (Differ v) vs
-differ_all w v same ws [] names all = All-nil (Differ v)
-differ_all w v same [] (t ∷ vs) names all = cc
-differ_all w v same (u ∷ ws) (t ∷ vs) names all =
-    let first : t.name ≡ u.name = cc in
-    let rest : map (λ x. x.name) vs ≡ map (λ x. x.name) ws = cc in
-    All-cons (Differ v) t vs (λ equal. All-head (Differ w) u ws all (sym same ∙ equal ∙ first)) (differ_all w v same ws vs rest (All-tail (Differ w) u ws all))
-
--- with the same names they differ still
+-- those of the same names differ still
 differ_same : (ws vs : List Workunit) → map (λ u. u.name) vs ≡ map (λ u. u.name) ws → Pairs Differ ws → Pairs Differ vs
-differ_same ws [] names apart = tt
-differ_same [] (v ∷ vs) names apart = cc
-differ_same (w ∷ ws) (v ∷ vs) names apart =
-    let first : v.name ≡ w.name = cc in
-    let rest : map (λ x. x.name) vs ≡ map (λ x. x.name) ws = cc in
-    (differ_all w v first ws vs rest apart.0, differ_same ws vs rest apart.1)
+differ_same ws vs names apart = to_pairs Differ vs (λ i j d order low equal.
+    let long : length vs ≡ length ws = sym (length-map vs (λ u. u.name)) ∙ ap length names ∙ length-map ws (λ u. u.name) in
+    from_pairs Differ ws apart i j d order (omega (arith, low, long)) (sym (at i d) ∙ equal ∙ at j d))
+  where
+    at : (k : ℕ) (d : Workunit) → (get_or vs k d).name ≡ (get_or ws k d).name
+    at k d = sym (get_or-map (λ u. u.name) vs k d) ∙ ap (λ ns. get_or ns k d.name) names ∙ get_or-map (λ u. u.name) ws k d
 
 -- what holds of each holds with the one of a name changed, where it holds of that
 named_all : (P : Workunit → Type 0) (world : World) → Pairs Differ world.workunits → (name : List ℕ) (image : Workunit → Workunit)
     → ((w : Workunit) → workunit_named world name ≡ Some w → P w → P (image w)) → All P world.workunits → All P (with_named world name image).workunits
 named_all P world apart name image keeps all =
     All-map P (λ w. if bytes_eq w.name name then image w else w) world.workunits
-    (λ k d low. one (get_or world.workunits k d) (found_named name world.workunits apart k d low) (all k d low))
-  where
-    one : (w : Workunit) → (bytes_eq w.name name ≡ true → workunit_named world name ≡ Some w) → P w → P (if bytes_eq w.name name then image w else w)
-    one w found holds = by (bytes_eq w.name name) found
-      where
-        by : (b : Bool) → (b ≡ true → workunit_named world name ≡ Some w) → P (if b then image w else w)
-        by true is = keeps w (is refl) holds
-        by false is = holds
+    (λ k d low. either P (bytes_eq (get_or world.workunits k d).name name) _ _
+    (λ is. keeps _ (found_named name world.workunits apart k d low is) (all k d low)) (λ other. all k d low))
 
 module _ {Row : Type 0} (rule : Rule Row) (keeps : Keeps rule) (world : World) (row : Row) (apart : Pairs Differ world.workunits) where
   -- they differ after a row
@@ -171,12 +120,9 @@ module _ {Row : Type 0} (rule : Rule Row) (keeps : Keeps rule) (world : World) (
   row_all : (P : Workunit → Type 0)
       → ((w : Workunit) → workunit_named world (rule.workunit row) ≡ Some w → row_verdict rule world row ≡ 0 → P w → P (rule.image row w))
       → All P world.workunits → All P (after_row rule world row).workunits
-  row_all P image all = elim (cases_Bool (row_verdict rule world row == 0)) [
-    | inl applied ↦
-        let nought : row_verdict rule world row ≡ 0 = eqb-true (row_verdict rule world row) 0 applied in
-        rw applied (named_all P world apart (rule.workunit row) (rule.image row) (λ w found holds. image w found nought holds) all)
-    | inr skipped ↦ rw skipped all
-  ]
+  row_all P image all =
+      row_by rule (λ after. All P after.workunits) world row all (λ nought. named_all P world apart (rule.workunit row) (rule.image row)
+      (λ w found holds. image w found nought holds) all)
 
 -- ---- rows, where hosts have these classes
 
@@ -189,7 +135,7 @@ module _ (classes : List HostClass) where
       (row_all (send_rule classes) (sends_keep classes) world row apart (IsOneClass classes) (λ w found nought alike.
       let verdict : send_verdict_code (send_verdict_in w row.n row.host (class_of classes row.host)) ≡ 0 = rw found at nought in
       (rules_keep_one_class classes w alike).sent row.n row.host row.moment
-      (send_applied (send_verdict_in w row.n row.host (class_of classes row.host)) verdict)) all)
+      (send_zero (send_verdict_in w row.n row.host (class_of classes row.host)) verdict)) all)
 
   -- a success in time is of a host of the workunit's class
   of_its_class : (world : World) (row : ReportRow) (w : Workunit) → world.classes ≡ classes → workunit_named world row.workunit ≡ Some w
@@ -228,26 +174,6 @@ news_alike classes params jobs =
     All-map (IsOneClass classes) (λ p. new_workunit params p.0 p.1) jobs
     (λ k d low. All-nil (λ (i : Instance). is_active i ≡ true → IfSome i.host (λ host. class_of classes host ≡ 0)))
 
-jobs_alike : (given : Given) (world : World) (params : Parameters) (jobs : List Job) (taken : Option (ℕ × List ℕ)) → Alike world world
-    → By (Alike world) world (jobs_kept given world jobs (unless_taken world params jobs taken))
-jobs_alike given world params jobs (Some place) all = all
-jobs_alike given world params jobs None all = by (nat_lt (most_workunits + 1) (world.next_number + length jobs))
-  where
-    by : (b : Bool) → By (Alike world) world (jobs_kept given world jobs (if b then Err TooMany else Ok (with_jobs world params jobs)))
-    by true = all
-    by false = All-append (IsOneClass world.classes) world.workunits _ all (news_alike world.classes params (enumerate_from world.next_number jobs))
-
-batch_alike : (given : Given) (world : World) (params : Result Parameters Fault) (jobs : Result (List Job) Fault) → Alike world world
-    → By (Alike world) world (batch_read given world params jobs)
-batch_alike given world (Err fault) jobs all = all
-batch_alike given world (Ok params) (Err fault) all = all
-batch_alike given world (Ok params) (Ok jobs) all = jobs_alike given world params jobs (first_taken world jobs) all
-
-sent_alike : (world : World) (given : Given) (rows : Result (List SendRow) Fault) → Pairs Differ world.workunits → Alike world world
-    → By (Alike world) world (rows_read (send_rule world.classes) given world rows)
-sent_alike world given (Err fault) apart all = all
-sent_alike world given (Ok rows) apart all = sends_alike world.classes rows world apart all
-
 image_alike : (classes : List HostClass) (pass : Pass) (now : ℕ) (w : Workunit) → IsOneClass classes w → All (IsOneClass classes) (images pass now w)
 image_alike classes Transition now w alike = All-cons (IsOneClass classes) _ [] ((rules_keep_one_class classes w alike).transitioned now) (All-nil (IsOneClass classes))
 image_alike classes Validate now w alike = All-cons (IsOneClass classes) _ [] (rules_keep_one_class classes w alike).validated (All-nil (IsOneClass classes))
@@ -259,42 +185,15 @@ images_alike : (classes : List HostClass) (pass : Pass) (now : ℕ) (taken ws : 
     → All (IsOneClass classes) (flat_map (λ w. if is_among taken w then images pass now w else w ∷ []) ws)
 images_alike classes pass now taken [] all = All-nil (IsOneClass classes)
 images_alike classes pass now taken (w ∷ ws) all =
-    All-append (IsOneClass classes) (if is_among taken w then images pass now w else w ∷ []) _ (by (is_among taken w))
+    All-append (IsOneClass classes) (if is_among taken w then images pass now w else w ∷ []) _ by
     (images_alike classes pass now taken ws (All-tail (IsOneClass classes) w ws all))
   where
-    by : (b : Bool) → All (IsOneClass classes) (if b then images pass now w else w ∷ [])
-    by true = image_alike classes pass now w (All-head (IsOneClass classes) w ws all)
-    by false = All-cons (IsOneClass classes) w [] (All-head (IsOneClass classes) w ws all) (All-nil (IsOneClass classes))
+    here : IsOneClass classes w
+    here = All-head (IsOneClass classes) w ws all
 
-cancel_alike : (world : World) (name : List ℕ) (found : Option Workunit) → Pairs Differ world.workunits → Alike world world
-    → By (Alike world) world (cancel_done world name found)
-cancel_alike world name None apart all = all
-cancel_alike world name (Some w) apart all =
-    either_by (Alike world) (is_undecided w) world _ _
-    (named_all (IsOneClass world.classes) world apart name cancelled (λ v found alike. (rules_keep_one_class world.classes v alike).cancelled) all) all
-
--- what is reported
-reported_alike : (world : World) (name file : List ℕ) → Pairs Differ world.workunits → LeavesOneClass world (AskReported name file) → Alike world world
-    → Alike world (step world (AskReported name file))
-reported_alike world name file apart leaves all = elim (cases_Bool (nat_lt world.version present_version)) [
-  | inl older ↦ rw older all
-  | inr younger ↦ rw younger (by younger (import_of world (reported_given name file)) refl)
-]
-  where
-    given : Given
-    given = reported_given name file
-
-    by_rows : nat_lt world.version present_version ≡ false → import_of world (reported_given name file) ≡ None → (rows : Result (List ReportRow) Fault)
-        → reports_of_file file ≡ rows → By (Alike world) world (rows_read report_rule (reported_given name file) world rows)
-    by_rows younger new (Err fault) is = all
-    by_rows younger new (Ok rows) is =
-        let answered : reply world (AskReported name file) ≡ Ok (Imported kind.Reported name 0 (row_verdicts report_rule world rows)) = rw (younger, new, is) refl in
-        reports_alike world.classes rows world apart refl (leaves rows (row_verdicts report_rule world rows) new is answered) all
-
-    by : nat_lt world.version present_version ≡ false → (found : Option Import) → import_of world (reported_given name file) ≡ found
-        → By (Alike world) world (imported_after world (reported_given name file) found)
-    by younger (Some import) is = either_by (Alike world) (has_content (reported_given name file) import) world _ _ all all
-    by younger None new = by_rows younger new (reports_of_file file) refl
+    by : All (IsOneClass classes) (if is_among taken w then images pass now w else w ∷ [])
+    by = either (All (IsOneClass classes)) (is_among taken w) _ _ (λ is. image_alike classes pass now w here)
+        (λ off. All-cons (IsOneClass classes) w [] here (All-nil (IsOneClass classes)))
 
 -- any request, by the classes of after
 step_alike : (world : World) → IsSound world → (request : Request) → LeavesOneClass world request → AreOneClass world → AreOneClass (step world request)
@@ -307,8 +206,9 @@ step_alike world sound request leaves all = by request leaves
     so : (asking : Request) → IsNoClasses asking → Alike world (step world asking) → AreOneClass (step world asking)
     so asking other alike = subst (λ classes. All (IsOneClass classes) (step world asking).workunits) (sym (step_same world asking other)) alike
 
-    now : (asking : Request) → IsNoClasses asking → By (Alike world) world (done_now world asking) → AreOneClass (step world asking)
-    now asking other alike = so asking other (asked (Alike world) world asking all alike)
+    now : (asking : Request) → IsNoClasses asking → ((is_upgrade asking ≡ false → nat_lt world.version present_version ≡ false)
+        → By (Alike world) world (done_now world asking)) → AreOneClass (step world asking)
+    now asking other alike = so asking other (asked (Alike world) world all asking alike)
 
     reclassed : (old new : List HostClass) (class : ℕ) (host : Option (List ℕ)) → IfSome host (λ it. class_of old it ≡ class)
         → IfSome host (λ it. class_of new it ≡ class_of old it) → IfSome host (λ it. class_of new it ≡ class)
@@ -318,37 +218,37 @@ step_alike world sound request leaves all = by request leaves
     by : (asking : Request) → LeavesOneClass world asking → AreOneClass (step world asking)
     by (AskBatch name template file) it =
         let given = batch_given name template file in
-        now (AskBatch name template file) tt
-        (import_by (Alike world) world given all (batch_alike given world (template_of template) (jobs_of_file file) all) (import_of world given))
+        now (AskBatch name template file) tt (λ younger. import_by (Alike world) world all given (λ new.
+        batch_by (Alike world) world all given (template_of template) (jobs_of_file file) (λ params jobs template_is file_is free few.
+        All-append (IsOneClass world.classes) world.workunits _ all (news_alike world.classes params (enumerate_from world.next_number jobs)))))
     by (AskSent name file) it =
         let given = sent_given name file in
-        now (AskSent name file) tt (import_by (Alike world) world given all (sent_alike world given (sends_of_file file) apart all) (import_of world given))
-    by (AskReported name file) it = so (AskReported name file) tt (reported_alike world name file apart it all)
+        now (AskSent name file) tt (λ younger. import_by (Alike world) world all given (λ new.
+        file_by (Alike world) world all (send_rule world.classes) given (sends_of_file file) (λ rows is. sends_alike world.classes rows world apart all)))
+    by (AskReported name file) it =
+        let given = reported_given name file in
+        now (AskReported name file) tt (λ younger. import_by (Alike world) world all given (λ new.
+        file_by (Alike world) world all report_rule given (reports_of_file file) (λ rows is.
+        let verdicts = row_verdicts report_rule world rows in
+        let answered : reply world (AskReported name file) ≡ Ok (Imported kind.Reported name 0 verdicts) = rw (younger refl, new, is) refl in
+        reports_alike world.classes rows world apart refl (it rows verdicts new is answered) all)))
     by (AskClasses name file) it =
         let after = step world (AskClasses name file) in
         subst (All (IsOneClass after.classes)) (sym ((leaves_others world).classed name file))
         (λ k d low j e here active. reclassed world.classes after.classes (get_or world.workunits k d).class _ (all k d low j e here active) (it k d low j e here active))
     by (AskPass pass moment limit min_age) it =
-        now (AskPass pass moment limit min_age) tt
-        (either_by (Alike world) (is_limit_right pass limit min_age) world _ _
-        (images_alike world.classes pass moment (chosen pass moment min_age limit world) world.workunits all) all)
-    by (AskCancel name) it = now (AskCancel name) tt (cancel_alike world name (workunit_named world name) apart all)
-    by AskUpgrade it = now AskUpgrade tt all
+        now (AskPass pass moment limit min_age) tt (λ younger. pass_by (Alike world) world all pass moment limit min_age
+        (λ right. images_alike world.classes pass moment (chosen pass moment min_age limit world) world.workunits all))
+    by (AskCancel name) it =
+        now (AskCancel name) tt (λ younger. cancel_by (Alike world) world all name (λ w is undecided.
+        named_all (IsOneClass world.classes) world apart name cancelled (λ v found alike. (rules_keep_one_class world.classes v alike).cancelled) all))
+    by AskUpgrade it = now AskUpgrade tt (λ younger. all)
 
 -- ---- where alone a request leaves them so
 
 -- what holds of each image
 map_back : (P : Workunit → Type 0) (f : Workunit → Workunit) (ws : List Workunit) → All P (map f ws) → All (λ w. P (f w)) ws
-map_back P f [] all = All-nil (λ w. P (f w))
-map_back P f (w ∷ ws) all = All-cons (λ v. P (f v)) w ws (All-head P (f w) (map f ws) all) (map_back P f ws (All-tail P (f w) (map f ws) all))
-
--- what holds of each holds of what is found
-found_holds : (P : Workunit → Type 0) (p : Workunit → Bool) (ws : List Workunit) (w : Workunit) → find p ws ≡ Some w → All P ws → P w
-found_holds P p [] w is all = absurd (cc)
-found_holds P p (v ∷ ws) w is all = elim (cases_Bool (p v)) [
-  | inl here ↦ let first : Some v ≡ Some w = rw here at is in let same : v ≡ w = cc in subst P same (All-head P v ws all)
-  | inr not_here ↦ let later : find p ws ≡ Some w = rw not_here at is in found_holds P p ws w later (All-tail P v ws all)
-]
+map_back P f ws all k d low = subst P (get_or-map f ws k d) (all k (f d) (omega (arith, low, length-map ws f)))
 
 -- each viable success is of a host of its workunit's class
 abbrev Viably : List HostClass → World → Type 0
@@ -373,7 +273,7 @@ module _ (classes : List HostClass) (world : World) (row : ReportRow) (apart : P
   its_left w found nought =
       let is : bytes_eq w.name row.workunit ≡ true = found_passes (λ v. bytes_eq v.name row.workunit) world.workunits w found in
       let it : ViablyAlike classes (left w) =
-      found_holds (λ v. ViablyAlike classes (left v)) (λ v. bytes_eq v.name row.workunit) world.workunits w found (each_left nought) in
+      rw found at (found_is (λ v. ViablyAlike classes (left v)) (λ v. bytes_eq v.name row.workunit) world.workunits (each_left nought)) in
       rw is at it
 
   its_verdict : (w : Workunit) → workunit_named world row.workunit ≡ Some w → row_verdict report_rule world row ≡ 0
@@ -384,21 +284,13 @@ module _ (classes : List HostClass) (world : World) (row : ReportRow) (apart : P
 
   -- so it was before the row
   row_back : Viably classes world
-  row_back = elim (cases_Bool (row_verdict report_rule world row == 0)) [
-    | inl applied ↦
-        let nought : row_verdict report_rule world row ≡ 0 = eqb-true (row_verdict report_rule world row) 0 applied in
-        (λ k d low. was nought (get_or world.workunits k d) (found_named row.workunit world.workunits apart k d low) (each_left nought k d low))
-    | inr skipped ↦ let all : Viably classes world = rw skipped at after in all
-  ]
+  row_back = row_by report_rule (λ left_world. Viably classes left_world → Viably classes world) world row (λ all. all) (λ nought all k d low.
+      was nought (get_or world.workunits k d) (found_named row.workunit world.workunits apart k d low) (each_left nought k d low)) after
     where
       was : row_verdict report_rule world row ≡ 0 → (w : Workunit) → (bytes_eq w.name row.workunit ≡ true → workunit_named world row.workunit ≡ Some w)
           → ViablyAlike classes (left w) → ViablyAlike classes w
-      was nought w found = by (bytes_eq w.name row.workunit) found
-        where
-          by : (b : Bool) → (b ≡ true → workunit_named world row.workunit ≡ Some w) → ViablyAlike classes (if b then report_rule.image row w else w)
-              → ViablyAlike classes w
-          by true is it = alike_before classes w row.n row.host row.moment row.status row.output (its_verdict w (is refl) nought) it
-          by false is it = it
+      was nought w found = either (λ v. ViablyAlike classes v → ViablyAlike classes w) (bytes_eq w.name row.workunit) _ _ (λ is it.
+          alike_before classes w row.n row.host row.moment row.status row.output (its_verdict w (found is) nought) it) (λ other it. it)
 
   -- and a success that the row told is of a host of the class
   its_class : (w : Workunit) → workunit_named world row.workunit ≡ Some w → row_verdict report_rule world row ≡ 0 → row.status ≡ status.Success
@@ -453,15 +345,13 @@ reclassed_back old new class (Some host) was is = is ∙ sym was
 
 reported_back : (world : World) → IsSound world → AreOneClass world → (name file : List ℕ) → AreOneClass (step world (AskReported name file))
     → LeavesOneClass world (AskReported name file)
-reported_back world sound all name file after rows verdicts new is answered = elim (cases_Bool (nat_lt world.version present_version)) [
-  | inl older ↦ absurd (let refused : Err (OldSchema world.version) ≡ Ok (Imported kind.Reported name 0 verdicts) = rw older at answered in cc)
-  | inr younger ↦
-      let alike : Alike world (step world (AskReported name file)) =
-      subst (λ classes. All (IsOneClass classes) (step world (AskReported name file)).workunits) (step_same world (AskReported name file) tt) after in
-      let left_alike : All (IsOneClass world.classes) (after_rows report_rule world rows).workunits = rw (younger, new, is) at alike in
-      reports_in_time world.classes rows world (to_pairs Differ world.workunits sound.names) refl all
-      (All-weaker (IsOneClass world.classes) (ViablyAlike world.classes) (viably_alike world.classes) (after_rows report_rule world rows).workunits left_alike)
-]
+reported_back world sound all name file after rows verdicts new is answered =
+    let younger = not_older world (AskReported name file) _ refl answered in
+    let alike : Alike world (step world (AskReported name file)) =
+    subst (λ classes. All (IsOneClass classes) (step world (AskReported name file)).workunits) (step_same world (AskReported name file) tt) after in
+    let left_alike : All (IsOneClass world.classes) (after_rows report_rule world rows).workunits = rw (younger, new, is) at alike in
+    reports_in_time world.classes rows world (to_pairs Differ world.workunits sound.names) refl all
+    (All-weaker (IsOneClass world.classes) (ViablyAlike world.classes) (viably_alike world.classes) (after_rows report_rule world rows).workunits left_alike)
 
 leaves_back : (world : World) → IsSound world → AreOneClass world → (request : Request) → AreOneClass (step world request) → LeavesOneClass world request
 leaves_back world sound all (AskBatch name template file) after = tt
@@ -481,16 +371,12 @@ leaves_exactly world request sound all = (leaves_back world sound all request, �
 
 -- ---- lists of requests
 
-steps_alike : (requests : List Request) (world : World) → All HasValues requests → IsSound world → EachAsked LeavesOneClass world requests → AreOneClass world
-    → AreOneClass (fold_steps world requests)
-steps_alike [] world values sound leaves all = all
-steps_alike (request ∷ requests) world values sound leaves all =
-    let one = sound_step world sound request (All-head HasValues request requests values) in
-    steps_alike requests (step world request) (All-tail HasValues request requests values) one.0 (λ k asking here. leaves (suc k) asking here)
-    (step_alike world sound request (leaves 0 request refl) all)
-
 pub one_class_stays : OneClassStays
-one_class_stays world requests values sound leaves all = steps_alike requests world values sound leaves all
+one_class_stays world [] values sound leaves all = all
+one_class_stays world (request ∷ requests) values sound leaves all =
+    let one = sound_step world sound request (All-head HasValues request requests values) in
+    one_class_stays (step world request) requests (All-tail HasValues request requests values) one.0 (λ k asking here. leaves (suc k) asking here)
+    (step_alike world sound request (leaves 0 request refl) all)
 
 pub one_class_since : OneClassSince
 one_class_since requests values leaves = one_class_stays empty_world requests values empty_sound leaves (All-nil (IsOneClass []))

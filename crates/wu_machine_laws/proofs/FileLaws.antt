@@ -1,16 +1,14 @@
 -- Rows that are applied hold after their file.
-use Rattle.std.proofs.Common.{◌≡◌, ◌≢◌, ℕ, zero, suc, ◌==◌, nat_lt, Bool, true, false, List, [], ◌∷◌, map, length, slice_get, Option, Some, None, option_map, Result, Ok, Err, bytes_eq, refl, sym, ap, subst, ◌∙◌, inl, inr, eqb-true, eq-eqb, arith}
-use Rattle.std.proofs.lemmas.Bool.{cases_Bool, cases_eq, ne_eqb}
-use Rattle.std.proofs.lemmas.List.Elements.{All-head, All-tail, recursion_from_All}
+use Rattle.std.proofs.Common.{◌≡◌, ◌≢◌, ℕ, zero, suc, Bool, true, List, [], ◌∷◌, map, length, slice_get, Option, Some, None, option_map, Ok, bytes_eq, refl, sym, ap, subst, ◌∙◌, inl, inr, eq-eqb, arith}
+use Rattle.std.proofs.lemmas.Bool.{cases_Bool, cases_eq, false_from_ne_true}
+use Rattle.std.proofs.lemmas.List.Elements.{All-head, All-tail}
 use Rattle.std.proofs.lemmas.Slice.Eq.{bytes_eq-Decides}
-use Rattle.std.specs.List.{All, AllByRecursion}
+use Rattle.std.specs.List.{All}
 use Rattle.std.specs.Option.{IsSomeAnd, option_map_or}
-use Rattle.std.specs.Prelude.{◌↔◌, ◌+◌, ◌&&◌, drop, find, not, if◌then◌else◌}
+use Rattle.std.specs.Prelude.{⊤, ◌↔◌, ◌+◌, drop, find, if◌then◌else◌}
 use Rattle.wu_core.specs.Classes.{class_of, with_class}
 use Rattle.wu_core.specs.World.{World}
 use Rattle.wu_core.proofs.ClassLemmas.{class_of-other, class_of-set}
-use Rattle.wu_core.specs.declared.fault.Fault.{Fault}
-use Rattle.wu_core.specs.declared.fault.Fault.TheVariants.{OldSchema}
 use Rattle.wu_core.specs.declared.import.ImportKind.{ImportKind}
 use Rattle.wu_core.specs.declared.import.ImportKind.TheVariants as kind
 use Rattle.wu_core.specs.declared.states.Outcome.TheVariants as outcome
@@ -20,9 +18,6 @@ use Rattle.wu_core.specs.declared.states.Status.TheVariants as status
 use Rattle.wu_core.specs.declared.workunit.HostClass.{HostClass}
 use Rattle.wu_core.specs.declared.workunit.Instance.{Instance}
 use Rattle.wu_core.specs.declared.workunit.Workunit.{Workunit}
-use Rattle.wu_feed.specs.Classes.{classes_of_file}
-use Rattle.wu_feed.specs.Reports.{reports_of_file}
-use Rattle.wu_feed.specs.Sends.{sends_of_file}
 use Rattle.wu_feed.specs.declared.reports.ReportRow.{ReportRow}
 use Rattle.wu_feed.specs.declared.sends.SendRow.{SendRow}
 use Rattle.wu_rules.specs.Reporting.{report_verdict_in}
@@ -34,12 +29,13 @@ use Rattle.wu_rules_laws.proofs.Told.{reports, sends}
 use Rattle.wu_rules_laws.specs.Rows.{IsReported, IsSent, MayBeReported, MayBeSent}
 use Rattle.wu_machine.proofs.StorableLemmas.{code_applied}
 use Rattle.wu_machine.specs.FileRows.{Rule, after_classes, after_row, after_rows, report_rule, row_verdict, row_verdicts, send_rule, unknown}
-use Rattle.wu_machine.specs.Imports.{classes_given, classes_read, Done, Given, imported_after, import_of, reported_given, rows_read, sent_given}
-use Rattle.wu_machine.specs.Machine.{is_upgrade, present_version, reply_of, world_of}
+use Rattle.wu_machine.specs.Imports.{Given, reported_given, rows_read, sent_given}
+use Rattle.wu_machine.specs.Machine.{reply_of, world_of}
 use Rattle.wu_machine.specs.Requests.{AskClasses, AskReported, AskSent, Imported}
 use Rattle.wu_machine.specs.Worlds.{with_host_class, with_named, workunit_named}
 use Rattle.wu_machine_laws.proofs.LeavingLaws.{Keeps, reports_keep, sends_keep}
-use Rattle.wu_machine_laws.specs.Files.{AppliesFiles, GivesClasses, IsApplied, IsOutAs, IsOverAs, OfInstance, OfNamed}
+use Rattle.wu_machine_laws.proofs.Results.{either, not_older, row_by, rows_by}
+use Rattle.wu_machine_laws.specs.Files.{AppliesFiles, IsApplied, IsOutAs, IsOverAs, OfInstance, OfNamed}
 
 -- ---- options
 
@@ -56,21 +52,18 @@ then_some P Q so (Some x) it = so x it
 
 pub found_passes : (p : Workunit → Bool) (ws : List Workunit) (w : Workunit) → find p ws ≡ Some w → p w ≡ true
 found_passes p [] w is = cc
-found_passes p (v ∷ ws) w is = by (found_passes p ws w) (p v) refl is
-  where
-    by : (find p ws ≡ Some w → p w ≡ true) → (b : Bool) → p v ≡ b → (if b then Some v else find p ws) ≡ Some w → p w ≡ true
-    by rest true e f = let same : v ≡ w = cc in ap p (sym same) ∙ e
-    by rest false e f = rest f
+found_passes p (v ∷ ws) w is = elim (cases_Bool (p v)) [
+  | inl on ↦ let one : Some v ≡ Some w = rw on at is in let same : v ≡ w = cc in subst (λ u. p u ≡ true) same on
+  | inr off ↦ found_passes p ws w (rw off at is)
+]
 
 -- a change that keeps the test is found as the image of what was
 pub find_map : (p : Workunit → Bool) (f : Workunit → Workunit) → ((w : Workunit) → p (f w) ≡ p w) → (ws : List Workunit) → find p (map f ws) ≡ option_map f (find p ws)
 find_map p f same [] = refl
-find_map p f same (w ∷ ws) =
-    ap (λ b. if b then Some (f w) else find p (map f ws)) (same w) ∙ (ap (λ o. if p w then Some (f w) else o) (find_map p f same ws) ∙ by (p w))
-  where
-    by : (b : Bool) → (if b then Some (f w) else option_map f (find p ws)) ≡ option_map f (if b then Some w else find p ws)
-    by true = refl
-    by false = refl
+find_map p f same (w ∷ ws) = elim (cases_Bool (p w)) [
+  | inl is ↦ rw (same w, is) refl
+  | inr off ↦ rw (same w, off) (find_map p f same ws)
+]
 
 module _ {Row : Type 0} (rule : Rule Row) (keeps : Keeps rule) where
   -- what a row makes of a workunit, if it is the one of its name
@@ -78,11 +71,7 @@ module _ {Row : Type 0} (rule : Rule Row) (keeps : Keeps rule) where
   made row w = if bytes_eq w.name (rule.workunit row) then rule.image row w else w
 
   made_name : (row : Row) (w : Workunit) → (made row w).name ≡ w.name
-  made_name row w = by (bytes_eq w.name (rule.workunit row))
-    where
-      by : (b : Bool) → (if b then rule.image row w else w).name ≡ w.name
-      by true = (keeps row w).0
-      by false = refl
+  made_name row w = either (λ (v : Workunit). v.name ≡ w.name) (bytes_eq w.name (rule.workunit row)) _ _ (λ is. (keeps row w).0) (λ other. refl)
 
   pub named_made : (world : World) (row : Row) (name : List ℕ)
       → workunit_named (with_named world (rule.workunit row) (rule.image row)) name ≡ option_map (made row) (workunit_named world name)
@@ -109,14 +98,16 @@ module _ {Row : Type 0} (rule : Rule Row) (keeps : Keeps rule) where
 
   -- what a row leaves of a workunit that it is not applied to, and makes of one that it is
   module _ (P : Workunit → Type 0) (name : List ℕ) (stays : (row : Row) (w : Workunit) → P w → rule.verdict row w ≡ 0 → P (rule.image row w)) where
-    stays_row : (world : World) (row : Row) → OfNamed world name P → OfNamed (after_row rule world row) name P
-    stays_row world row it = elim (cases_Bool (row_verdict rule world row == 0)) [
-      | inr skipped ↦
-          subst (λ b. OfNamed (if b then with_named world (rule.workunit row) (rule.image row) else world) name P) (sym skipped) it
-      | inl applied ↦
-          subst (λ b. OfNamed (if b then with_named world (rule.workunit row) (rule.image row) else world) name P) (sym applied)
-          (subst (λ o. IsSomeAnd o P) (sym (named_made world row name ∙ ap (option_map (made row)) here.1)) (by (eqb-true _ _ applied)))
-    ]
+    stays_row : (world : World) (row : Row) → row_verdict rule world row ≡ 0 → OfNamed world name P
+        → OfNamed (with_named world (rule.workunit row) (rule.image row)) name P
+    stays_row world row nought it =
+        subst (λ o. IsSomeAnd o P) (sym (named_made world row name ∙ ap (option_map (made row)) here.1))
+        (either P (bytes_eq here.0.name (rule.workunit row)) _ _ (λ on.
+        let same : name ≡ rule.workunit row = sym its_name ∙ (bytes_eq-Decides here.0.name (rule.workunit row)).0 on in
+        let to = applied_to world row nought in
+        let alike : Some to.0 ≡ Some here.0 = sym to.1 ∙ (ap (workunit_named world) (sym same) ∙ here.1) in
+        let one : to.0 ≡ here.0 = cc in
+        stays row here.0 here.2 (subst (λ w. rule.verdict row w ≡ 0) one to.2)) (λ off. here.2))
       where
         here : (w : Workunit) × (workunit_named world name ≡ Some w) × P w
         here = some_of P (workunit_named world name) it
@@ -124,20 +115,8 @@ module _ {Row : Type 0} (rule : Rule Row) (keeps : Keeps rule) where
         its_name : here.0.name ≡ name
         its_name = (bytes_eq-Decides here.0.name name).0 (found_passes (λ v. bytes_eq v.name name) world.workunits here.0 here.1)
 
-        by : row_verdict rule world row ≡ 0 → P (made row here.0)
-        by nought = elim (cases_Bool (bytes_eq here.0.name (rule.workunit row))) [
-          | inr off ↦ subst (λ b. P (if b then rule.image row here.0 else here.0)) (sym off) here.2
-          | inl on ↦
-              let same : name ≡ rule.workunit row = sym its_name ∙ (bytes_eq-Decides here.0.name (rule.workunit row)).0 on in
-              let to = applied_to world row nought in
-              let alike : Some to.0 ≡ Some here.0 = sym to.1 ∙ (ap (workunit_named world) (sym same) ∙ here.1) in
-              let one : to.0 ≡ here.0 = cc in
-              subst (λ b. P (if b then rule.image row here.0 else here.0)) (sym on) (stays row here.0 here.2 (subst (λ w. rule.verdict row w ≡ 0) one to.2))
-        ]
-
     stays_rows : (rows : List Row) (world : World) → OfNamed world name P → OfNamed (after_rows rule world rows) name P
-    stays_rows [] world it = it
-    stays_rows (row ∷ rows) world it = stays_rows rows (after_row rule world row) (stays_row world row it)
+    stays_rows rows = rows_by rule (λ after. OfNamed after name P) (λ row. ⊤) (λ between row any nought it. stays_row between row nought it) rows (λ k d low. tt)
 
   -- each row that is applied holds in the end
   holds_all : (Q : Row → Workunit → Type 0) → ((row : Row) (w : Workunit) → rule.verdict row w ≡ 0 → Q row (rule.image row w))
@@ -162,12 +141,9 @@ module _ {Row : Type 0} (rule : Rule Row) (keeps : Keeps rule) where
   none_applied : (rows : List Row) (world : World) → All (λ verdict. verdict ≢ 0) (row_verdicts rule world rows) → after_rows rule world rows ≡ world
   none_applied [] world all = refl
   none_applied (row ∷ rows) world all =
-      let off : (row_verdict rule world row == 0) ≡ false =
-      ne_eqb (row_verdict rule world row) 0 (All-head (λ verdict. verdict ≢ 0) (row_verdict rule world row) (row_verdicts rule (after_row rule world row) rows) all) in
-      let same : after_row rule world row ≡ world = ap (λ b. if b then with_named world (rule.workunit row) (rule.image row) else world) off in
-      none_applied rows (after_row rule world row)
-      (All-tail (λ verdict. verdict ≢ 0) (row_verdict rule world row) (row_verdicts rule (after_row rule world row) rows) all)
-      ∙ same
+      let verdicts = row_verdicts rule (after_row rule world row) rows in
+      none_applied rows (after_row rule world row) (All-tail (λ verdict. verdict ≢ 0) (row_verdict rule world row) verdicts all)
+      ∙ row_by rule (λ after. after ≡ world) world row refl (λ nought. absurd (All-head (λ verdict. verdict ≢ 0) (row_verdict rule world row) verdicts all nought))
 
   -- a row is applied exactly where it may be
   pub row_applied : (May : Row → Workunit → Type 0) → ((row : Row) (w : Workunit) → (rule.verdict row w ≡ 0) ↔ May row w)
@@ -196,7 +172,8 @@ module _ {Row : Type 0} (rule : Rule Row) (keeps : Keeps rule) where
 
 -- ---- sends
 
-send_zero : (v : SendVerdict) → send_verdict_code v ≡ 0 → v ≡ send.Applied
+-- the number 0 is that of a send that is applied
+pub send_zero : (v : SendVerdict) → send_verdict_code v ≡ 0 → v ≡ send.Applied
 send_zero send.Applied is = refl
 send_zero send.Unknown is = absurd cc
 send_zero send.NotUnsent is = absurd cc
@@ -273,14 +250,13 @@ stays_reported row other w it nought = elim (cases_eq row.n other.n) [
 module _ {Row : Type 0} (rule : Rule Row) (keeps : Keeps rule) (May Q : Row → Workunit → Type 0) (may : (row : Row) (w : Workunit) → (rule.verdict row w ≡ 0) ↔ May row w)
     (makes : (row : Row) (w : Workunit) → rule.verdict row w ≡ 0 → Q row (rule.image row w))
     (stays : (row other : Row) (w : Workunit) → Q row w → rule.verdict other w ≡ 0 → Q row (rule.image other w)) where
-  -- what is answered of a file
-  abbrev Applies : World → List Row → Result Done Fault → Type 0
-  Applies world rows result =
-      (k : ImportKind) (name verdicts : List ℕ) → reply_of result ≡ Ok (Imported k name 0 verdicts)
-      → IsApplied rows verdicts (λ w row. OfNamed w (rule.workunit row) (May row)) (λ w row. OfNamed w (rule.workunit row) (Q row)) world (world_of world result)
+  -- what a file of these rows with these verdicts does
+  abbrev Applied : World → List Row → List ℕ → World → Type 0
+  Applied world rows verdicts after =
+      IsApplied rows verdicts (λ w row. OfNamed w (rule.workunit row) (May row)) (λ w row. OfNamed w (rule.workunit row) (Q row)) world after
 
   rows_applied : (world : World) (rows : List Row) (after : World) → after.workunits ≡ (after_rows rule world rows).workunits
-      → IsApplied rows (row_verdicts rule world rows) (λ w row. OfNamed w (rule.workunit row) (May row)) (λ w row. OfNamed w (rule.workunit row) (Q row)) world after
+      → Applied world rows (row_verdicts rule world rows) after
   rows_applied world rows after same = record {
     one_each = verdicts_each rule keeps rows world;
     first = λ row here. first_row rule keeps May may rows world row here;
@@ -289,31 +265,24 @@ module _ {Row : Type 0} (rule : Rule Row) (keeps : Keeps rule) (May Q : Row → 
     skipped = λ none. same ∙ ap (λ v. v.workunits) (none_applied rule keeps rows world none);
   }
 
-  file_applied : (world : World) (given : Given) (rows : List Row) (file : Result (List Row) Fault) → file ≡ Ok rows → Applies world rows (rows_read rule given world file)
-  file_applied world given rows file is =
-      subst (λ r. Applies world rows (rows_read rule given world r)) (sym is) (λ k name verdicts answered.
-      (let same : row_verdicts rule world rows ≡ verdicts = cc in
-      subst (λ vs. IsApplied rows vs (λ w row. OfNamed w (rule.workunit row) (May row)) (λ w row. OfNamed w (rule.workunit row) (Q row)) world
-      (world_of world (rows_read rule given world (Ok rows)))) same
-      (rows_applied world rows (world_of world (rows_read rule given world (Ok rows))) refl)))
-
-  unless_older : (b : Bool) (world : World) (rows : List Row) (fault : Fault) (result : Result Done Fault) → Applies world rows result
-      → Applies world rows (if b then Err fault else result)
-  unless_older true world rows fault result it k name verdicts answered = absurd (cc)
-  unless_older false world rows fault result it k name verdicts answered = it k name verdicts answered
+  -- what is answered of it are those verdicts
+  file_applied : (world : World) (given : Given) (rows : List Row) (k : ImportKind) (name verdicts : List ℕ)
+      → reply_of (rows_read rule given world (Ok rows)) ≡ Ok (Imported k name 0 verdicts)
+      → Applied world rows verdicts (world_of world (rows_read rule given world (Ok rows)))
+  file_applied world given rows k name verdicts answered =
+      let same : row_verdicts rule world rows ≡ verdicts = cc in
+      subst (λ vs. Applied world rows vs (world_of world (rows_read rule given world (Ok rows)))) same (rows_applied world rows _ refl)
 
 -- ---- classes
 
 -- a host that no row names keeps its class
-others_keep : (host : List ℕ) (rows : List HostClass) (world : World) → AllByRecursion (λ (row : HostClass). row.host ≢ host) rows
+others_keep : (host : List ℕ) (rows : List HostClass) (world : World) → All (λ (row : HostClass). row.host ≢ host) rows
     → class_of (after_classes world rows).classes host ≡ class_of world.classes host
 others_keep host [] world all = refl
 others_keep host (row ∷ rows) world all =
-    others_keep host rows (with_host_class world row) all.1 ∙ class_of-other row.host row.class world.classes host (apart (bytes_eq row.host host) refl)
-  where
-    apart : (b : Bool) → bytes_eq row.host host ≡ b → b ≡ false
-    apart true e = absurd (all.0 ((bytes_eq-Decides row.host host).0 e))
-    apart false e = refl
+    others_keep host rows (with_host_class world row) (All-tail (λ (it : HostClass). it.host ≢ host) row rows all)
+    ∙ class_of-other row.host row.class world.classes host (false_from_ne_true (bytes_eq row.host host) (λ is.
+    All-head (λ (it : HostClass). it.host ≢ host) row rows all ((bytes_eq-Decides row.host host).0 is)))
 
 -- the last row that names a host gives it its class
 last_gives : (rows : List HostClass) (world : World) (k : ℕ) (row : HostClass) → slice_get rows k ≡ Some row
@@ -321,54 +290,28 @@ last_gives : (rows : List HostClass) (world : World) (k : ℕ) (row : HostClass)
 last_gives [] world k row here none = cc
 last_gives (one ∷ rows) world zero row here none =
     let same : one ≡ row = cc in
-    others_keep row.host rows (with_host_class world one) (recursion_from_All (λ (later : HostClass). later.host ≢ row.host) rows none)
+    others_keep row.host rows (with_host_class world one) none
     ∙ (ap (λ (it : HostClass). class_of (with_class it.host it.class world.classes) row.host) same ∙ class_of-set row.host row.class world.classes)
 last_gives (one ∷ rows) world (suc k) row here none =
     let behind : suc k + 1 ≡ suc (k + 1) = omega arith in
     last_gives rows (with_host_class world one) k row here (subst (λ n. All (λ (later : HostClass). later.host ≢ row.host) (drop n (one ∷ rows))) behind none)
 
--- what a file of classes gives, where it is read
-GivesBy : World → List HostClass → Result Done Fault → Type 0
-GivesBy world rows result =
-    (name verdicts : List ℕ) → reply_of result ≡ Ok (Imported kind.Classes name 0 verdicts) → GivesClasses rows world.classes (world_of world result).classes
-
-classes_give : (given : Given) (world : World) (rows : List HostClass) (file : Result (List HostClass) Fault) → file ≡ Ok rows → GivesBy world rows (classes_read given world file)
-unfolding GivesBy
-classes_give given world rows file is =
-    subst (λ r. GivesBy world rows (classes_read given world r)) (sym is) (λ name verdicts answered. record {
-      named = last_gives rows world;
-      others = λ host none. others_keep host rows world (recursion_from_All (λ (row : HostClass). row.host ≢ host) rows none);
-    })
-
-gives_unless_older : (b : Bool) (world : World) (rows : List HostClass) (fault : Fault) (result : Result Done Fault) → GivesBy world rows result
-    → GivesBy world rows (if b then Err fault else result)
-unfolding GivesBy
-gives_unless_older true world rows fault result it name verdicts answered = absurd (cc)
-gives_unless_older false world rows fault result it name verdicts answered = it name verdicts answered
+-- ---- a new file
 
 pub applies_files : AppliesFiles
-unfolding GivesBy
 applies_files world name file verdicts = record {
   sent = λ rows new is answered.
-      unless_older (send_rule world.classes) (sends_keep world.classes) (λ row w. MayBeSent w row.n row.host (class_of world.classes row.host)) (λ row. OfInstance row.n (IsOutAs row)) (may_send world.classes) (makes_sent world.classes) (stays_sent world.classes)
-      (nat_lt world.version present_version && not (is_upgrade (AskSent name file))) world rows (OldSchema world.version)
-      (imported_after world (sent_given name file) (import_of world (sent_given name file)))
-      (λ k its given_verdicts told. subst (λ earlier. Applies (send_rule world.classes) (sends_keep world.classes) (λ row w. MayBeSent w row.n row.host (class_of world.classes row.host)) (λ row. OfInstance row.n (IsOutAs row)) (may_send world.classes) (makes_sent world.classes) (stays_sent world.classes) world rows (imported_after world (sent_given name file) earlier)) (sym new)
-      (file_applied (send_rule world.classes) (sends_keep world.classes) (λ row w. MayBeSent w row.n row.host (class_of world.classes row.host)) (λ row. OfInstance row.n (IsOutAs row)) (may_send world.classes) (makes_sent world.classes) (stays_sent world.classes) world (sent_given name file) rows (sends_of_file file) is)
-      k its given_verdicts told)
-      kind.Sent name verdicts answered;
+      let younger = not_older world (AskSent name file) _ refl answered in
+      let classes = world.classes in
+      rw (younger, new, is) (file_applied (send_rule classes) (sends_keep classes) (λ row w. MayBeSent w row.n row.host (class_of classes row.host))
+      (λ row. OfInstance row.n (IsOutAs row)) (may_send classes) (makes_sent classes) (stays_sent classes) world (sent_given name file) rows kind.Sent name
+      verdicts (rw (younger, new, is) at answered));
   reported = λ rows new is answered.
-      unless_older report_rule reports_keep (λ row. OfInstance row.n (MayBeReported row.host row.moment)) (λ row. OfInstance row.n (IsOverAs row)) may_report makes_reported stays_reported
-      (nat_lt world.version present_version && not (is_upgrade (AskReported name file))) world rows (OldSchema world.version)
-      (imported_after world (reported_given name file) (import_of world (reported_given name file)))
-      (λ k its given_verdicts told. subst (λ earlier. Applies report_rule reports_keep (λ row. OfInstance row.n (MayBeReported row.host row.moment)) (λ row. OfInstance row.n (IsOverAs row)) may_report makes_reported stays_reported world rows (imported_after world (reported_given name file) earlier)) (sym new)
-      (file_applied report_rule reports_keep (λ row. OfInstance row.n (MayBeReported row.host row.moment)) (λ row. OfInstance row.n (IsOverAs row)) may_report makes_reported stays_reported world (reported_given name file) rows (reports_of_file file) is)
-      k its given_verdicts told)
-      kind.Reported name verdicts answered;
+      let younger = not_older world (AskReported name file) _ refl answered in
+      rw (younger, new, is) (file_applied report_rule reports_keep (λ row. OfInstance row.n (MayBeReported row.host row.moment))
+      (λ row. OfInstance row.n (IsOverAs row)) may_report makes_reported stays_reported world (reported_given name file) rows kind.Reported name
+      verdicts (rw (younger, new, is) at answered));
   classed = λ rows new is answered.
-      gives_unless_older (nat_lt world.version present_version && not (is_upgrade (AskClasses name file))) world rows (OldSchema world.version)
-      (imported_after world (classes_given name file) (import_of world (classes_given name file)))
-      (subst (λ earlier. GivesBy world rows (imported_after world (classes_given name file) earlier)) (sym new)
-      (classes_give (classes_given name file) world rows (classes_of_file file) is))
-      name verdicts answered;
+      let younger = not_older world (AskClasses name file) _ refl answered in
+      rw (younger, new, is) (record { named = last_gives rows world; others = λ host none. others_keep host rows world none });
 }

@@ -1,15 +1,16 @@
 -- What follows from what lasts over a list of requests.
-use Rattle.std.proofs.Common.{◌≡◌, ◌<◌, ◌==◌, true, false, List, [], ◌∷◌, get_or, refl, sym, subst, ◌∙◌, inl, inr, arith}
-use Rattle.std.proofs.lemmas.Bool.{cases_Bool, eq-eqb}
-use Rattle.std.proofs.lemmas.List.Elements.{All-cons, All-contains, All-nil, All-weaker}
+use Rattle.std.proofs.Common.{◌≡◌, ◌<◌, ◌==◌, true, List, [], ◌∷◌, get_or, refl, sym, subst, ◌∙◌, arith}
+use Rattle.std.proofs.lemmas.Bool.{eq-eqb}
+use Rattle.std.proofs.lemmas.List.Elements.{All-cons, All-contains, All-nil}
+use Rattle.std.proofs.lemmas.List.Folds.{list_any_at}
 use Rattle.std.specs.List.{All}
 use Rattle.wu_core.specs.World.{empty_world}
 use Rattle.wu_core.specs.declared.workunit.Workunit.{Workunit}
 use Rattle.wu_rules.specs.Consistent.{HostsApart}
 use Rattle.wu_machine.specs.Machine.{fold_steps}
 use Rattle.wu_machine.specs.Passes.{is_among}
-use Rattle.wu_machine_laws.specs.Lasting.{CanonicalResultsLast, GivenUpLasts, HostsAreApart, HostsLast, HostsStayApart, NamesLast, NumbersAreGivenOnce, VerdictsLast, WhilePresent}
-use Rattle.wu_machine_laws.proofs.Lasts.{Came, Continues, none_of_any}
+use Rattle.wu_machine_laws.specs.Lasting.{HostsAreApart, NumbersAreGivenOnce, WhilePresent}
+use Rattle.wu_machine_laws.proofs.Lasts.{Came, Continues}
 use Rattle.wu_machine_laws.proofs.Middles.{Pairs, to_pairs}
 use Rattle.wu_machine_laws.proofs.SoundLemmas.{empty_sound}
 use Rattle.wu_machine_laws.proofs.SoundSteps.{sound_steps}
@@ -26,7 +27,7 @@ one_of_number (w ∷ ws) up =
     (λ same. let less = up.0 j e here in absurd (omega (arith, less, same))) (one_of_number ws up.1 j e here))
 
 -- what has the number of a workunit continues it
-continues_on : WhilePresent Continues
+pub continues_on : WhilePresent Continues
 continues_on world requests values sound k d low j e here same =
     let later = fold_steps world requests in
     let w = get_or world.workunits k d in
@@ -39,49 +40,14 @@ continues_on world requests values sound k d low j e here same =
     (sym came.2.number ∙ same) in
     subst (λ u. Continues u v) same_one came.2
 
--- so its canonical result lasts
-pub canonical_results_last : CanonicalResultsLast
-canonical_results_last world requests values sound k d low j e here same = (continues_on world requests values sound k d low j e here same).canonical
-
--- its name
-pub names_last : NamesLast
-names_last world requests values sound k d low j e here same = (continues_on world requests values sound k d low j e here same).name
-
--- its final verdicts
-pub verdicts_last : VerdictsLast
-verdicts_last world requests values sound k d low j e here same = (continues_on world requests values sound k d low j e here same).verdicts
-
--- that it was given up
-pub given_up_lasts : GivenUpLasts
-given_up_lasts world requests values sound k d low j e here same = (continues_on world requests values sound k d low j e here same).given_up
-
--- and the hosts of its instances
-pub hosts_last : HostsLast
-hosts_last world requests values sound k d low j e here same = (continues_on world requests values sound k d low j e here same).hosts
-
--- hosts that are apart stay so
-pub hosts_stay_apart : HostsStayApart
-hosts_stay_apart world requests values sound = (sound_steps requests world values sound).1.apart
-
--- and in a fresh project they are
+-- in a fresh project hosts are apart
 pub hosts_are_apart : HostsAreApart
-hosts_are_apart requests values = hosts_stay_apart empty_world requests values empty_sound (All-nil HostsApart)
+hosts_are_apart requests values = (sound_steps requests empty_world values empty_sound).1.apart (All-nil HostsApart)
 
 -- what came from a world was there under its number
 pub numbers_are_given_once : NumbersAreGivenOnce
-numbers_are_given_once world requests values sound =
-    All-weaker (λ (v : Workunit). v.number < world.next_number → Came world v)
-    (λ (v : Workunit). v.number < world.next_number → is_among world.workunits v ≡ true) (λ v came low. there v (came low))
-    (fold_steps world requests).workunits (sound_steps requests world values sound).1.came
-  where
-    there : (v : Workunit) → Came world v → is_among world.workunits v ≡ true
-    there v came = elim (cases_Bool (is_among world.workunits v)) [
-      | inl is ↦ is
-      | inr none ↦
-          let off : (came.0.number == v.number) ≡ false =
-          All-contains (λ (u : Workunit). (u.number == v.number) ≡ false) world.workunits came.0
-          (none_of_any (λ (u : Workunit). u.number == v.number) world.workunits none) came.1 in
-          let on : (came.0.number == v.number) ≡ true = eq-eqb came.0.number v.number (sym came.2.number) in
-          let both : true ≡ false = sym on ∙ off in
-          cc
-    ]
+numbers_are_given_once world requests values sound k d low old =
+    let v = get_or (fold_steps world requests).workunits k d in
+    let came : Came world v = (sound_steps requests world values sound).1.came k d low old in
+    All-contains (λ (u : Workunit). u.number ≡ v.number → is_among world.workunits v ≡ true) world.workunits came.0
+    (λ j e within same. list_any_at (λ (u : Workunit). u.number == v.number) world.workunits j e within (eq-eqb _ v.number same)) came.1 (sym came.2.number)

@@ -5,11 +5,12 @@ use Rattle.std.proofs.lemmas.List.{map-append}
 use Rattle.std.proofs.lemmas.List.Elements.{All-append, All-cons, All-contains, All-contains_itself, All-nil, All-weaker, Contains-append_left, Contains-append_right}
 use Rattle.std.proofs.lemmas.List.Folds.{list_any-append}
 use Rattle.std.proofs.lemmas.Slice.Eq.{bytes_eq-Decides}
-use Rattle.std.specs.List.{All, Contains, filter, list_any}
+use Rattle.std.specs.List.{All, Contains, filter}
 use Rattle.std.specs.Prelude.{◌||◌}
-use Rattle.wu_core.specs.World.{World}
+use Rattle.wu_core.specs.World.{Import, World}
 use Rattle.wu_core.specs.declared.workunit.Archived.{Archived}
 use Rattle.wu_core.specs.declared.workunit.Grant.{Grant}
+use Rattle.wu_core.specs.declared.workunit.HostClass.{HostClass}
 use Rattle.wu_core.specs.declared.workunit.Workunit.{Workunit}
 use Rattle.wu_rules.specs.Consistent.{HostsApart, KeepsHosts, KeepsVerdicts, is_done, one_if}
 use Rattle.wu_rules.specs.Counts.{is_clear}
@@ -59,20 +60,19 @@ Leads old new = IsSound new × Lasts old new
 
 -- each workunit of a world came from it
 pub came_all : (world : World) → All (λ (v : Workunit). v.number < world.next_number → Came world v) world.workunits
-came_all world = All-weaker (Contains world.workunits) (λ (v : Workunit). v.number < world.next_number → Came world v)
-    (λ v there low. (v, there, continues_same v)) world.workunits (All-contains_itself world.workunits)
+came_all world k d within low = (get_or world.workunits k d, All-contains_itself world.workunits k d within, continues_same (get_or world.workunits k d))
 
--- all lasts where nothing changes
-pub lasts_same : (world : World) → Lasts world world
-lasts_same world = record {
-  next = omega arith;
-  came = came_all world;
-  names = λ name is. is;
-  apart = λ all. all;
-}
+-- all lasts where only imports, classes of hosts and the version change
+pub lasts_beside : (world : World) (imports : List Import) (classes : List HostClass) (version : ℕ)
+    → Lasts world (record world { imports = imports; classes = classes; version = version })
+lasts_beside world imports classes version = record { next = omega arith; came = came_all world; names = λ name is. is; apart = λ all. all }
+
+-- so a sound world leads to itself
+pub leads_same : (world : World) → IsSound world → Leads world world
+leads_same world sound = (sound, lasts_beside world world.imports world.classes world.version)
 
 -- what lasts twice lasts
-pub lasts_then : (one two three : World) → Lasts one two → Lasts two three → Lasts one three
+lasts_then : (one two three : World) → Lasts one two → Lasts two three → Lasts one three
 lasts_then one two three first second = record {
   next = (let a = first.next in let b = second.next in omega (arith, a, b));
   came = All-weaker (λ (v : Workunit). v.number < two.next_number → Came two v) (λ (v : Workunit). v.number < one.next_number → Came one v) back
@@ -103,12 +103,11 @@ lasts_then one two three first second = record {
           },
         )
 
--- ---- one workunit rewritten, or taken out
+-- and where it leads to one that leads to a third, to the third
+pub leads_then : (one two three : World) → Leads one two → Leads two three → Leads one three
+leads_then one two three first second = (second.0, lasts_then one two three first.1 second.1)
 
--- where none is found, the test fails at each
-pub none_of_any : {X : Type 0} (p : X → Bool) (xs : List X) → list_any p xs ≡ false → All (λ x. p x ≡ false) xs
-none_of_any p [] off = All-nil (λ x. p x ≡ false)
-none_of_any p (x ∷ xs) off = let parts = or_parts (p x) (list_any p xs) off in All-cons (λ y. p y ≡ false) x xs parts.0 (none_of_any p xs parts.1)
+-- ---- one workunit rewritten, or taken out
 
 -- a name that is none of these rows' is not that of any
 pub not_one_of : (rows : List Archived) (name : List ℕ) → is_one_of (map (λ row. row.name) rows) name ≡ false → All (λ (row : Archived). row.name ≢ name) rows
@@ -134,45 +133,21 @@ archived_name world w name its done is = elim (cases_Bool (is_one_of (map (λ ro
 -- where one of several holds, it holds with that one moved
 or_moved : (u w s r v m : Bool) → (w ≡ true → (v ≡ true) ⊎ (r ≡ true)) → ((u || (w || s)) || r) ≡ true → (((u || v) || s) || (r || m)) ≡ true
 or_moved true w s r v m moved is = refl
-or_moved false true s r v m moved is = by (moved refl)
-  where
-    right_of : (b c : Bool) → (b || (true || c)) ≡ true
-    right_of true c = refl
-    right_of false c = refl
-
-    by : (v ≡ true) ⊎ (r ≡ true) → (((false || v) || s) || (r || m)) ≡ true
-    by (inl here) = rw here refl
-    by (inr there) = rw there (right_of (v || s) m)
-or_moved false false true r true m moved is = refl
-or_moved false false true r false m moved is = refl
-or_moved false false false true true m moved is = refl
-or_moved false false false true false m moved is = refl
-or_moved false false false false v m moved is = let never : false ≡ true = is in cc
+or_moved false w s r true m moved is = refl
+or_moved false w true r false m moved is = refl
+or_moved false w false true false m moved is = refl
+or_moved false true false false false m moved is = elim (moved refl) [
+  | inl here ↦ absurd (cc)
+  | inr there ↦ absurd (cc)
+]
+or_moved false false false false false m moved is = cc
 
 -- whether a workunit has the name, and whether an archived row has it
-any_of : (ws : List Workunit) → List ℕ → Bool
+abbrev any_of : List Workunit → List ℕ → Bool
 any_of ws name = is_one_of (map (λ w. w.name) ws) name
 
-any_rows : (rows : List Archived) → List ℕ → Bool
+abbrev any_rows : List Archived → List ℕ → Bool
 any_rows rows name = is_one_of (map (λ row. row.name) rows) name
-
--- a name is taken by a workunit or by an archived row
-was_taken : (name : List ℕ) (xs : List Workunit) (ys : List Archived) → is_one_of (map (λ x. x.name) xs ++ map (λ y. y.name) ys)
-    name ≡ (any_of xs name || any_rows ys name)
-unfolding any_of any_rows
-was_taken name xs ys = list_any-append (λ it. bytes_eq it name) (map (λ x. x.name) xs) (map (λ y. y.name) ys)
-
--- one of two lists has it
-any_append : (name : List ℕ) (xs ys : List Workunit) → any_of (xs ++ ys) name ≡ (any_of xs name || any_of ys name)
-unfolding any_of
-any_append name xs ys = ap (list_any (λ it. bytes_eq it name)) (map-append (λ (x : Workunit). x.name) xs ys) ∙ list_any-append (λ it. bytes_eq it name)
-    (map (λ x. x.name) xs) (map (λ x. x.name) ys)
-
--- so with archived rows
-rows_append : (name : List ℕ) (rows more : List Archived) → any_rows (rows ++ more) name ≡ (any_rows rows name || any_rows more name)
-unfolding any_rows
-rows_append name rows more = ap (list_any (λ it. bytes_eq it name)) (map-append (λ (y : Archived). y.name) rows more)
-    ∙ list_any-append (λ it. bytes_eq it name) (map (λ y. y.name) rows) (map (λ y. y.name) more)
 
 -- where one of two holds, it does beside a third
 or_more : (a b c : Bool) → (a || c) ≡ true → ((a || b) || c) ≡ true
@@ -184,8 +159,7 @@ or_more false false c is = is
 pub names_more : (name : List ℕ) (ws more : List Workunit) (rows : List Archived) → is_one_of (map (λ x. x.name) ws ++ map (λ y. y.name) rows) name ≡ true
     → is_one_of (map (λ x. x.name) (ws ++ more) ++ map (λ y. y.name) rows) name ≡ true
 names_more name ws more rows is =
-    was_taken name (ws ++ more) rows ∙ ap (λ b. b || any_rows rows name) (any_append name ws more)
-    ∙ or_more (any_of ws name) (any_of more name) (any_rows rows name) (sym (was_taken name ws rows) ∙ is)
+    simp (map-append, list_any-append) (or_more (any_of ws name) (any_of more name) (any_rows rows name) (simp list_any-append at is))
 
 module _ (world : World) (us : List Workunit) (w : Workunit) (ws vs : List Workunit) (gs hs : List Grant) (rows more : List Archived) where
   -- the world with the workunit in the middle
@@ -201,12 +175,13 @@ module _ (world : World) (us : List Workunit) (w : Workunit) (ws vs : List Worku
   came_after on =
       All-append (λ (v : Workunit). v.number < world.next_number → Came before v) (us ++ vs) ws
       (All-append (λ (v : Workunit). v.number < world.next_number → Came before v) us vs
-      (All-weaker (Contains us) (λ (v : Workunit). v.number < world.next_number → Came before v)
-      (λ v there low. (v, Contains-append_left us (w ∷ ws) v there, continues_same v)) us (All-contains_itself us))
-      (All-weaker (Continues w) (λ (v : Workunit). v.number < world.next_number → Came before v)
-      (λ v it low. (w, Contains-append_right us (w ∷ ws) w (Contains-append_left (w ∷ []) ws w (0, omega arith, refl)), it)) vs on))
-      (All-weaker (Contains ws) (λ (v : Workunit). v.number < world.next_number → Came before v)
-      (λ v there low. (v, Contains-append_right us (w ∷ ws) v (Contains-append_right (w ∷ []) ws v there), continues_same v)) ws (All-contains_itself ws))
+      (λ k d within low. (get_or us k d, Contains-append_left us (w ∷ ws) _ (All-contains_itself us k d within), continues_same (get_or us k d)))
+      (λ k d within low. (w, Contains-append_right us (w ∷ ws) w (0, omega arith, refl), on k d within)))
+      (λ k d within low. (
+        get_or ws k d,
+        Contains-append_right us (w ∷ ws) _ (Contains-append_right (w ∷ []) ws _ (All-contains_itself ws k d within)),
+        continues_same (get_or ws k d),
+      ))
 
   -- hosts that were apart stay so
   apart_after : All (Continues w) vs → All HostsApart (us ++ w ∷ ws) → All HostsApart ((us ++ vs) ++ ws)
@@ -218,13 +193,9 @@ module _ (world : World) (us : List Workunit) (w : Workunit) (ws vs : List Worku
   -- the names that were taken stay so
   names_after : (name : List ℕ) → (bytes_eq w.name name ≡ true → (any_of vs name ≡ true) ⊎ (any_rows rows name ≡ true))
       → is_one_of (taken_names before) name ≡ true → is_one_of (taken_names after) name ≡ true
-  unfolding any_of any_rows
   names_after name moved is =
-      was_taken name ((us ++ vs) ++ ws) (rows ++ more)
-      ∙ ap (λ b. b || any_rows (rows ++ more) name) (any_append name (us ++ vs) ws ∙ ap (λ b. b || any_of ws name) (any_append name us vs))
-      ∙ ap (λ b. ((any_of us name || any_of vs name) || any_of ws name) || b) (rows_append name rows more)
-      ∙ or_moved (any_of us name) (bytes_eq w.name name) (any_of ws name) (any_rows rows name) (any_of vs name) (any_rows more name) moved
-      (sym (was_taken name (us ++ w ∷ ws) rows ∙ ap (λ b. b || any_rows rows name) (any_append name us (w ∷ ws))) ∙ is)
+      simp (map-append, list_any-append) (or_moved (any_of us name) (bytes_eq w.name name) (any_of ws name) (any_rows rows name) (any_of vs name)
+      (any_rows more name) moved (simp (map-append, list_any-append) at is))
 
   -- so all that is to last lasts
   lasts_after : All (Continues w) vs → ((name : List ℕ) → bytes_eq w.name name ≡ true → (any_of vs name ≡ true) ⊎ (any_rows rows name ≡ true))
@@ -241,7 +212,6 @@ pub lasts_rewritten : (world : World) (us : List Workunit) (w : Workunit) (ws : 
     → Continues w v
     → Lasts (record world { workunits = us ++ w ∷ ws; grants = gs; archived = rows })
     (record world { workunits = (us ++ v ∷ []) ++ ws; grants = gs ++ hs; archived = rows ++ more })
-unfolding any_of
 lasts_rewritten world us w ws v gs hs rows more on =
     lasts_after world us w ws (v ∷ []) gs hs rows more (All-cons (Continues w) v [] on (All-nil (Continues w))) (λ name is. inl (moved name is))
   where
@@ -254,7 +224,6 @@ pub lasts_without : (world : World) (us : List Workunit) (w : Workunit) (ws : Li
     → IsRecorded (record world { workunits = us ++ w ∷ ws; grants = gs; archived = rows }) w
     → Lasts (record world { workunits = us ++ w ∷ ws; grants = gs; archived = rows })
     (record world { workunits = (us ++ []) ++ ws; grants = gs ++ hs; archived = rows ++ more })
-unfolding any_rows
 lasts_without world us w ws gs hs rows more done its =
     lasts_after world us w ws [] gs hs rows more (All-nil (Continues w))
     (λ name is. inr (archived_name (record world { workunits = us ++ w ∷ ws; grants = gs; archived = rows }) w name its done is))

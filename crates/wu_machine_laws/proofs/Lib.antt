@@ -1,3 +1,4 @@
+pub mod Results
 pub mod PassLaws
 pub mod Middles
 pub mod SoundParts

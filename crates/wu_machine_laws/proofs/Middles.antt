@@ -5,16 +5,20 @@ use Rattle.std.proofs.lemmas.List.{length-append}
 use Rattle.std.proofs.lemmas.List.Elements.{All-append, All-cons, All-head, All-nil, All-tail, All-weaker, filter-append}
 use Rattle.std.proofs.lemmas.List.Kept.{AllPairs-cons}
 use Rattle.std.specs.List.{All, AllPairs, filter, flat_map}
-use Rattle.std.specs.Prelude.{⊤, if◌then◌else◌}
+use Rattle.std.specs.Prelude.{⊤}
 
 -- ---- one in the middle
 
+-- what holds of each of two lists in a row holds of each
+pub both_parts : {X : Type 0} (P : X → Type 0) (us ws : List X) → All P (us ++ ws) → All P us × All P ws
+both_parts P [] ws all = (All-nil P, all)
+both_parts P (u ∷ us) ws all =
+    let rest = both_parts P us ws (All-tail P u (us ++ ws) all) in
+    (All-cons P u us (All-head P u (us ++ ws) all) rest.0, rest.1)
+
 -- what holds of each holds of those before it, of it, and of those behind it
 pub around : {X : Type 0} (P : X → Type 0) (us : List X) (w : X) (ws : List X) → All P (us ++ w ∷ ws) → All P us × P w × All P ws
-around P [] w ws all = (All-nil P, All-head P w ws all, All-tail P w ws all)
-around P (u ∷ us) w ws all =
-    let rest = around P us w ws (All-tail P u (us ++ w ∷ ws) all) in
-    (All-cons P u us (All-head P u (us ++ w ∷ ws) all) rest.0, rest.1, rest.2)
+around P us w ws all = let parts = both_parts P us (w ∷ ws) all in (parts.0, All-head P w ws parts.1, All-tail P w ws parts.1)
 
 -- with another in its place
 pub instead : {X : Type 0} (P : X → Type 0) (us : List X) (w v : X) (ws : List X) → All P (us ++ w ∷ ws) → P v → All P (us ++ v ∷ ws)
@@ -24,21 +28,10 @@ instead P us w v ws all here = let parts = around P us w ws all in All-append P 
 pub without : {X : Type 0} (P : X → Type 0) (us : List X) (w : X) (ws : List X) → All P (us ++ w ∷ ws) → All P (us ++ ws)
 without P us w ws all = let parts = around P us w ws all in All-append P us ws parts.0 parts.2
 
--- what holds of each of two lists in a row holds of each
-pub both_parts : {X : Type 0} (P : X → Type 0) (us ws : List X) → All P (us ++ ws) → All P us × All P ws
-both_parts P [] ws all = (All-nil P, all)
-both_parts P (u ∷ us) ws all =
-    let rest = both_parts P us ws (All-tail P u (us ++ ws) all) in
-    (All-cons P u us (All-head P u (us ++ ws) all) rest.0, rest.1)
-
 -- what holds of each of what each gives
 pub of_each : {X Y : Type 0} (P : Y → Type 0) (f : X → List Y) (xs : List X) → All P (flat_map f xs) → All (λ x. All P (f x)) xs
 of_each P f [] all = All-nil (λ x. All P (f x))
 of_each P f (x ∷ xs) all = let parts = both_parts P (f x) (flat_map f xs) all in All-cons (λ y. All P (f y)) x xs parts.0 (of_each P f xs parts.1)
-
--- each with another of the two
-pub each_both : {X : Type 0} (P Q : X → Type 0) (xs : List X) → All P xs → All Q xs → All (λ x. P x × Q x) xs
-each_both P Q xs one other = λ k d low. (one k d low, other k d low)
 
 -- ---- pairs
 
@@ -115,12 +108,10 @@ count_agree p q [] agree = refl
 count_agree p q (x ∷ xs) agree =
     let here : p x ≡ q x = All-head (λ y. p y ≡ q y) x xs agree in
     let rest = count_agree p q xs (All-tail (λ y. p y ≡ q y) x xs agree) in
-    rw here (by (q x) rest)
-  where
-    by : (b : Bool) → length (filter p xs) ≡ length (filter q xs) → length (if b then x ∷ filter p xs else filter p xs) ≡ length
-        (if b then x ∷ filter q xs else filter q xs)
-    by true rest = ap suc rest
-    by false rest = rest
+    elim (cases_Bool (q x)) [
+      | inl is ↦ rw (here, is) (ap suc rest)
+      | inr off ↦ rw (here, off) rest
+    ]
 
 -- one that the test passes is counted
 pub counted : {X : Type 0} (p : X → Bool) (xs : List X) (k : ℕ) (d : X) → k < length xs → p (get_or xs k d) ≡ true → length (filter p xs) ≢ 0

@@ -1,23 +1,20 @@
 -- The numbers of a batch.
-use Rattle.std.proofs.Common.{◌≡◌, ◌≢◌, ℕ, ◌+◌, nat_lt, Bool, true, false, List, [], ◌∷◌, map, length, Option, Some, None, option_map, Result, Ok, Err, refl, sym, ap, subst, ◌∙◌}
+use Rattle.std.proofs.Common.{◌≡◌, ◌≢◌, ℕ, ◌+◌, nat_lt, List, [], ◌∷◌, map, length, Option, Some, None, option_map, Ok, refl, sym, ap, subst, ◌∙◌}
 use Rattle.std.proofs.lemmas.List.{length-map}
 use Rattle.std.proofs.lemmas.List.FromFn.{length-enumerate_from}
 use Rattle.std.specs.List.{enumerate_from}
 use Rattle.std.specs.Option.{IsSomeAnd}
-use Rattle.std.specs.Prelude.{◌&&◌, not, if◌then◌else◌}
 use Rattle.wu_core.specs.Limits.{most_workunits}
 use Rattle.wu_core.specs.Parameters.{Parameters}
 use Rattle.wu_core.specs.World.{World}
-use Rattle.wu_core.specs.declared.fault.Fault.{Fault}
-use Rattle.wu_core.specs.declared.fault.Fault.TheVariants.{OldSchema, TooMany}
 use Rattle.wu_core.specs.declared.import.ImportKind.TheVariants as kind
-use Rattle.wu_feed.specs.Jobs.{jobs_of_file}
 use Rattle.wu_feed.specs.declared.jobs.Job.{Job}
 use Rattle.wu_machine.specs.Batches.{first_number, first_taken, new_workunit, unless_taken, with_jobs}
-use Rattle.wu_machine.specs.Imports.{batch_given, batch_read, Done, import_of, imported_after, jobs_kept}
-use Rattle.wu_machine.specs.Machine.{is_upgrade, present_version, reply_of, world_of}
+use Rattle.wu_machine.specs.Imports.{batch_given, Given, jobs_kept}
+use Rattle.wu_machine.specs.Machine.{reply_of, world_of}
 use Rattle.wu_machine.specs.Requests.{AskBatch, Imported}
 use Rattle.wu_rules_laws.proofs.Making.{at_placed}
+use Rattle.wu_machine_laws.proofs.Results.{either, not_older}
 use Rattle.wu_machine_laws.specs.Leaving.{IsNewOf, Numbers, NumbersBatches}
 
 -- what a batch that is added makes
@@ -44,37 +41,19 @@ added_numbers world after params jobs workunits next = record {
     by [] other = absurd (other refl)
     by (job ∷ js) other = refl
 
--- a batch that is answered was added
-abbrev Answers : World → Parameters → List Job → ℕ → Result Done Fault → Type 0
-Answers world params jobs first result =
-    (name verdicts : List ℕ) → reply_of result ≡ Ok (Imported kind.Batch name first verdicts) → Numbers world (world_of world result) params jobs first
-
-answers_err : (world : World) (params : Parameters) (jobs : List Job) (first : ℕ) (fault : Fault) → Answers world params jobs first (Err fault)
-answers_err world params jobs first fault name verdicts is = absurd (cc)
-
-jobs_numbered : (world : World) (name template file : List ℕ) (params : Parameters) (jobs : List Job) (first : ℕ) (taken : Option (ℕ × List ℕ))
-    → Answers world params jobs first (jobs_kept (batch_given name template file) world jobs (unless_taken world params jobs taken))
-jobs_numbered world name template file params jobs first (Some place) = answers_err world params jobs first _
-jobs_numbered world name template file params jobs first None = by (nat_lt (most_workunits + 1) (world.next_number + length jobs))
-  where
-    by : (b : Bool) → Answers world params jobs first (jobs_kept (batch_given name template file) world jobs (if b then Err TooMany else Ok (with_jobs world params jobs)))
-    by true = answers_err world params jobs first TooMany
-    by false = λ its_name verdicts is. (
-        let same : first_number world jobs ≡ first = cc in
-        subst (Numbers world _ params jobs) same (added_numbers world _ params jobs refl refl)
-        )
-
-either_answers : (b : Bool) (world : World) (params : Parameters) (jobs : List Job) (first : ℕ) (fault : Fault) (result : Result Done Fault)
-    → Answers world params jobs first result → Answers world params jobs first (if b then Err fault else result)
-either_answers true world params jobs first fault result it = answers_err world params jobs first fault
-either_answers false world params jobs first fault result it = it
+-- jobs that are answered were added
+jobs_numbered : (given : Given) (world : World) (params : Parameters) (jobs : List Job) (taken : Option (ℕ × List ℕ)) (name verdicts : List ℕ) (first : ℕ)
+    → reply_of (jobs_kept given world jobs (unless_taken world params jobs taken)) ≡ Ok (Imported kind.Batch name first verdicts)
+    → Numbers world (world_of world (jobs_kept given world jobs (unless_taken world params jobs taken))) params jobs first
+jobs_numbered given world params jobs (Some place) name verdicts first = λ answered. absurd (cc)
+jobs_numbered given world params jobs None name verdicts first =
+    either (λ after. reply_of (jobs_kept given world jobs after) ≡ Ok (Imported kind.Batch name first verdicts)
+    → Numbers world (world_of world (jobs_kept given world jobs after)) params jobs first) (nat_lt (most_workunits + 1) (world.next_number + length jobs)) _ _
+    (λ many answered. absurd (cc)) (λ few answered. let same : first_number world jobs ≡ first = cc in
+    subst (Numbers world _ params jobs) same (added_numbers world _ params jobs refl refl))
 
 pub numbers_batches : NumbersBatches
 numbers_batches world name template file verdicts first params jobs new template_is file_is answered =
-    either_answers (nat_lt world.version present_version && not (is_upgrade (AskBatch name template file))) world params jobs first (OldSchema world.version)
-    (imported_after world (batch_given name template file) (import_of world (batch_given name template file)))
-    (subst (λ earlier. Answers world params jobs first (imported_after world (batch_given name template file) earlier)) (sym new)
-    (subst (λ p. Answers world params jobs first (batch_read (batch_given name template file) world p (jobs_of_file file))) (sym template_is)
-    (subst (λ js. Answers world params jobs first (batch_read (batch_given name template file) world (Ok params) js)) (sym file_is)
-    (jobs_numbered world name template file params jobs first (first_taken world jobs)))))
-    name verdicts answered
+    let younger = not_older world (AskBatch name template file) _ refl answered in
+    rw (younger, new, template_is, file_is) (jobs_numbered (batch_given name template file) world params jobs (first_taken world jobs) name verdicts first
+    (rw (younger, new, template_is, file_is) at answered))

@@ -9,9 +9,8 @@ use Rattle.std.specs.Cmp.Lexicographic.{slice_cmp}
 use Rattle.std.specs.Ordering.{is_lt, nat_cmp}
 use Rattle.std.specs.List.{All, AllByRecursion, AllPairs, count_by, filter, flat_map, list_any, sum_by}
 use Rattle.std.specs.Option.{option_map_or}
-use Rattle.std.specs.Prelude.{◌↔◌, IsSomeAnd, not, ◌&&◌, get_or, nat_lt}
-use Rattle.wu_core.specs.declared.fault.Fault.{Fault}
-use Rattle.wu_core.specs.declared.fault.Fault.TheVariants.{BadLimit, OldSchema}
+use Rattle.std.specs.Prelude.{◌↔◌, IsSomeAnd, not, get_or}
+use Rattle.wu_core.specs.declared.fault.Fault.TheVariants.{BadLimit}
 use Rattle.wu_core.specs.declared.workunit.Grant.{Grant}
 use Rattle.wu_core.specs.declared.workunit.Workunit.{Workunit}
 use Rattle.wu_core.specs.Hosts.{hosts_of, is_to, with_host}
@@ -28,11 +27,12 @@ use Rattle.wu_rules_laws.proofs.Awake.{woken-changed, changed-woken}
 use Rattle.wu_rules_laws.proofs.Judged.{looked-changed, changed-looked}
 use Rattle.wu_rules_laws.proofs.Spent.{ready-changed, changed-ready, ready_assimilate-changed, changed-ready_assimilate}
 use Rattle.wu_machine.proofs.ImageLemmas.{assimilated_of, emptied_of, gives_nothing, passed_none, transitioned_of, validated_of}
-use Rattle.wu_machine.specs.Machine.{is_limit_right, is_upgrade, present_version, reply, reply_of, step, world_of}
+use Rattle.wu_machine.specs.Machine.{is_limit_right, reply, step}
 use Rattle.wu_machine.specs.Passes.{archives, granted, handled, images, is_among, passed}
 use Rattle.wu_machine.specs.Requests.{AskPass, Passed}
 use Rattle.wu_machine_laws.specs.Laws.{AddsUp, is_listed, IsTaken, KeepsRecords, ListsHosts}
 use Rattle.wu_machine_laws.proofs.Middles.{from_pairs}
+use Rattle.wu_machine_laws.proofs.Results.{either, not_older}
 
 -- ---- the test of a pass and its image
 
@@ -120,23 +120,11 @@ images_gone Purge now ts w taken = refl
 
 pub others_stay : (pass : Pass) (now : ℕ) (ts ws : List Workunit) → filter (is_left pass now ts) (flat_map (leaves pass now ts) ws) ≡ filter (is_left pass now ts) ws
 others_stay pass now ts [] = refl
-others_stay pass now ts (w ∷ ws) =
-    filter-append (is_left pass now ts) (leaves pass now ts w) (flat_map (leaves pass now ts) ws)
-    ∙ ap (λ l. filter (is_left pass now ts) (leaves pass now ts w) ++ l) (others_stay pass now ts ws)
-    ∙ by_case (is_among ts w) refl
-  where
-    rest : List Workunit
-    rest = filter (is_left pass now ts) ws
-
-    by_case : (b : Bool) → b ≡ is_among ts w → filter (is_left pass now ts) (if is_among ts w then images pass now w else w ∷ []) ++ rest ≡ (if not (is_among ts w) then w ∷ rest else rest)
-    by_case true is =
-        ap (λ b. filter (is_left pass now ts) (if b then images pass now w else w ∷ []) ++ rest) (sym is)
-        ∙ ap (λ l. l ++ rest) (images_gone pass now ts w (sym is))
-        ∙ ap (λ b. if not b then w ∷ rest else rest) is
-    by_case false is =
-        ap (λ b. filter (is_left pass now ts) (if b then images pass now w else w ∷ []) ++ rest) (sym is)
-        ∙ ap (λ b. (if not b then w ∷ [] else []) ++ rest) (sym is)
-        ∙ ap (λ b. if not b then w ∷ rest else rest) is
+others_stay pass now ts (w ∷ ws) = elim (cases_Bool (is_among ts w)) [
+  | inl is ↦
+      rw (is, filter-append (is_left pass now ts) (images pass now w) (flat_map (leaves pass now ts) ws), images_gone pass now ts w is) (others_stay pass now ts ws)
+  | inr off ↦ rw (off, off) (ap (λ l. w ∷ l) (others_stay pass now ts ws))
+]
 
 -- ---- nothing taken, nothing changed
 
@@ -172,10 +160,6 @@ image_short Assimilate now w = omega arith
 image_short Delete now w = omega arith
 image_short Purge now w = omega arith
 
-leaves_short : (pass : Pass) (now : ℕ) (b : Bool) (w : Workunit) → length (if b then images pass now w else w ∷ []) ≤ 1
-leaves_short pass now true w = image_short pass now w
-leaves_short pass now false w = omega arith
-
 module _ (pass : Pass) (now min_age limit : ℕ) (world : World) where
   abbrev taken : List Workunit
   taken = chosen pass now min_age limit world
@@ -185,7 +169,8 @@ module _ (pass : Pass) (now min_age limit : ℕ) (world : World) where
       All-take (λ w. leaves pass now taken w ≡ w ∷ []) limit (filter (changes pass now min_age) world.workunits)
       (All-filter (changes pass now min_age) (λ w. leaves pass now taken w ≡ w ∷ []) world.workunits
       (All-from_recursion (λ w. leaves pass now taken w ≡ w ∷ []) world.workunits
-      (fixed (leaves pass now taken) (λ w. leaves_short pass now (is_among taken w) w) world.workunits (ap (λ (v : World). v.workunits) same))))
+      (fixed (leaves pass now taken) (λ w. either (λ (l : List Workunit). length l ≤ 1) (is_among taken w) _ _ (λ is. image_short pass now w)
+      (λ off. omega arith)) world.workunits (ap (λ (v : World). v.workunits) same))))
 
   pub changed_all : All (λ w. changes pass now min_age w ≡ true) taken
   changed_all = All-take (λ w. changes pass now min_age w ≡ true) limit (filter (changes pass now min_age) world.workunits) (filter_passes (changes pass now min_age) world.workunits)
@@ -206,18 +191,17 @@ module _ (pass : Pass) (now min_age limit : ℕ) (world : World) where
 
 -- ---- what is answered
 
-answered : (b c : Bool) (f g : Fault) (pass : Pass) (h n : ℕ) (made world : World)
-    → reply_of (if b then Err f else (if c then Ok (Passed pass h, made) else Err g)) ≡ Ok (Passed pass n)
-    → (n ≡ h) × (world_of world (if b then Err f else (if c then Ok (Passed pass h, made) else Err g)) ≡ made)
-answered true c f g pass h n made world is = let no : ⊥ = cc in absurd no
-answered false true f g pass h n made world is = let same : h ≡ n = cc in (sym same, refl)
-answered false false f g pass h n made world is = let no : ⊥ = cc in absurd no
-
 pub pass_answered : (pass : Pass) (now limit min_age n : ℕ) (world : World) → reply world (AskPass pass now limit min_age) ≡ Ok (Passed pass n)
     → (n ≡ handled pass now min_age limit world) × (step world (AskPass pass now limit min_age) ≡ passed pass now min_age limit world)
 pass_answered pass now limit min_age n world is =
-    answered (nat_lt world.version present_version && not (is_upgrade (AskPass pass now limit min_age))) (is_limit_right pass limit min_age)
-    (OldSchema world.version) BadLimit pass (handled pass now min_age limit world) n (passed pass now min_age limit world) world is
+    let younger = not_older world (AskPass pass now limit min_age) _ refl is in
+    elim (cases_Bool (is_limit_right pass limit min_age)) [
+      | inl right ↦
+          let answer : Ok (Passed pass (handled pass now min_age limit world)) ≡ Ok (Passed pass n) = rw (younger, right) at is in
+          let same : handled pass now min_age limit world ≡ n = cc in
+          (sym same, rw (younger, right) refl)
+      | inr wrong ↦ absurd (let no : Err BadLimit ≡ Ok (Passed pass n) = rw (younger, wrong) at is in cc)
+    ]
 
 -- ---- what is recorded
 

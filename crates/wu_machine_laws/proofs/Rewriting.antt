@@ -20,7 +20,7 @@ use Rattle.wu_core.specs.Storable.{AreStoredInstances, IsHost, IsName, IsStoredA
 use Rattle.wu_machine.specs.Sound.{HasPossibleMask, IsGiven, IsRecorded, IsSound}
 use Rattle.wu_machine_laws.proofs.Middles.{around, count_agree, count_all, count_append, count_none, counted, from_pairs, instead, none_counted, Pairs, pairs_append, pairs_around, pairs_instead, pairs_of_one, pairs_without, to_pairs, without}
 use Rattle.wu_machine_laws.proofs.SoundLemmas.{too_old}
-use Rattle.wu_machine_laws.proofs.SoundParts.{Differ, GrantsDiffer, is_at, is_for, is_row_of, IsGrantIn, IsGrantOf, IsIn, IsItsRow, IsNamedAlike, IsOwn, IsOwnRow, IsRowIn, IsToName, Ordered, RowNamesDiffer, RowsDiffer}
+use Rattle.wu_machine_laws.proofs.SoundParts.{Differ, GrantsDiffer, is_at, is_for, is_row_of, IsGrantIn, IsIn, IsItsRow, IsNamedAlike, IsOwn, IsOwnRow, IsRowIn, IsToName, Ordered, RowNamesDiffer, RowsDiffer}
 
 -- ---- counts
 
@@ -51,42 +51,29 @@ at_most_one : (b : Bool) (n : ℕ) → n ≡ one_if b → n ≤ 1
 at_most_one true n is = omega arith
 at_most_one false n is = omega arith
 
--- a conjunction whose first part fails
-and_not : (p q : Bool) → p ≡ false → (p && q) ≡ false
-and_not p q off = rw off refl
-
--- one whose first part holds is its second part
-and_is : (p q : Bool) → p ≡ true → (p && q) ≡ q
-and_is p q is = rw is refl
-
--- one whose parts both hold
-both_true : (p q : Bool) → p ≡ true → q ≡ true → (p && q) ≡ true
-both_true p q one other = rw (one, other) refl
-
 -- ---- the host of a place
 
--- a place that has a host is one of an instance
-place_within : (instances : List Instance) (n : ℕ) (host : List ℕ) → instance_host instances n ≡ Some host → n < length instances
-place_within instances n host is = by (slice_get instances n) refl is
+-- a place that has a host is that of an instance, which has it
+host_at : (instances : List Instance) (n : ℕ) (host : List ℕ) → instance_host instances n ≡ Some host
+    → (i : Instance) × (slice_get instances n ≡ Some i) × (i.host ≡ Some host)
+host_at instances n host is = by (slice_get instances n) refl is
   where
-    by : (found : Option Instance) → slice_get instances n ≡ found → option_map_or (λ (i : Instance). i.host) found None ≡ Some host → n < length instances
-    by (Some i) at here = slice_get_within instances n i at
+    by : (found : Option Instance) → slice_get instances n ≡ found → option_map_or (λ (i : Instance). i.host) found None ≡ Some host
+        → (i : Instance) × (slice_get instances n ≡ Some i) × (i.host ≡ Some host)
+    by (Some i) at here = (i, at, here)
     by None at here = absurd cc
+
+-- so it is within the list
+place_within : (instances : List Instance) (n : ℕ) (host : List ℕ) → instance_host instances n ≡ Some host → n < length instances
+place_within instances n host is = let it = host_at instances n host is in slice_get_within instances n it.0 it.1
 
 -- the host of a stored instance is a name
 host_named : (instances : List Instance) (n : ℕ) (host : List ℕ) → AreStoredInstances instances → instance_host instances n ≡ Some host → IsName host
-host_named instances n host stored is = by (slice_get instances n) refl is
-  where
-    named : (found : Option (List ℕ)) → IsHost found → found ≡ Some host → IsName host
-    named (Some name) kept same = let here : name ≡ host = cc in subst IsName here kept
-    named None kept same = absurd cc
-
-    by : (found : Option Instance) → slice_get instances n ≡ found → option_map_or (λ (i : Instance). i.host) found None ≡ Some host → IsName host
-    by (Some i) at here =
-        let kept : IsStoredInstance i = subst IsStoredInstance (get_or_from_slice_get instances n i i at)
-        (stored.each n i (slice_get_within instances n i at)) in
-        named i.host kept.values.host here
-    by None at here = absurd cc
+host_named instances n host stored is =
+    let it = host_at instances n host is in
+    let kept : IsStoredInstance it.0 = subst IsStoredInstance (get_or_from_slice_get instances n it.0 it.0 it.1)
+    (stored.each n it.0 (place_within instances n host is)) in
+    subst IsHost it.2 kept.values.host
 
 -- ---- grants that are given once
 
@@ -164,20 +151,18 @@ module _ (world : World) (young : class_version ≤ world.version) (us : List Wo
     other_recorded : (u : Workunit) → (u.number ≢ w.number) × (u.name ≢ w.name) → IsRecorded before u → IsRecorded after u
     other_recorded u other is = record {
       granted = λ n. none_more _ _ _ _ (count_append (is_for u n) world.grants gs)
-          (count_none (is_for u n) gs (All-weaker (IsGrantOf w) (λ (grant : Grant). (grant.workunit == u.number && grant.n == n) ≡ false)
-          (λ grant at. and_not (grant.workunit == u.number) (grant.n == n) (ne_eqb grant.workunit u.number (λ same. other.0 (sym same ∙ at)))) gs
-          rewrites.granted.workunit)) (is.granted n);
-      own = All-append (IsOwn u) world.grants gs is.own
-          (All-weaker (IsGrantOf w) (IsOwn u) (λ grant at same. absurd (other.0 (sym same ∙ at))) gs rewrites.granted.workunit);
+          (count_none (is_for u n) gs (λ k d low. rw (ne_eqb (get_or gs k d).workunit u.number
+          (λ same. other.0 (sym same ∙ rewrites.granted.workunit k d low))))) (is.granted n);
+      own = All-append (IsOwn u) world.grants gs is.own (λ k d low same. absurd (other.0 (sym same ∙ rewrites.granted.workunit k d low)));
       archived = none_more _ _ _ _ (count_append (is_row_of u) world.archived kept)
-          (count_none (is_row_of u) kept (All-weaker (IsItsRow w v) (λ (row : Archived). (row.number == u.number) ≡ false)
-          (λ row at. ne_eqb row.number u.number (λ same. other.0 (sym same ∙ at.0))) kept rewrites.archives.own)) is.archived;
-      as_archived = All-append (IsOwnRow u) world.archived kept is.as_archived
-          (All-weaker (IsItsRow w v) (IsOwnRow u) (λ row at same. absurd (other.0 (sym same ∙ at.0))) kept rewrites.archives.own);
+          (count_none (is_row_of u) kept (λ k d low. ne_eqb (get_or kept k d).number u.number (λ same. other.0 (sym same ∙ (own k d low).0)))) is.archived;
+      as_archived = All-append (IsOwnRow u) world.archived kept is.as_archived (λ k d low same. absurd (other.0 (sym same ∙ (own k d low).0)));
       named = All-append (IsNamedAlike u) world.archived kept is.named
-          (All-weaker (IsItsRow w v) (IsNamedAlike u)
-          (λ row at. (λ same. absurd (other.1 (sym same ∙ at.1)), λ same. absurd (other.0 (sym same ∙ at.0)))) kept rewrites.archives.own);
+          (λ k d low. (λ same. absurd (other.1 (sym same ∙ (own k d low).1)), λ same. absurd (other.0 (sym same ∙ (own k d low).0))));
     }
+      where
+        own : All (IsItsRow w v) kept
+        own = rewrites.archives.own
 
     -- ---- what is recorded of the one that is rewritten
 
@@ -187,7 +172,7 @@ module _ (world : World) (young : class_version ≤ world.version) (us : List Wo
     was_valid k d low at =
         let g = get_or world.grants k d in
         was_so (is_valid_at w.instances g.n) _ (its.granted g.n) (counted (is_for w g.n) world.grants k d low
-        (both_true (g.workunit == w.number) (g.n == g.n) (eq-eqb g.workunit w.number at) (eq-eqb g.n g.n refl)))
+        (rw (eq-eqb g.workunit w.number at, eq-eqb g.n g.n refl)))
 
     -- a grant of it stays one for its host, with its credit
     grant_kept : (g : Grant) → is_valid_at w.instances g.n ≡ true → IsGrantFor w g → IsGrantFor v g
@@ -208,17 +193,14 @@ module _ (world : World) (young : class_version ≤ world.version) (us : List Wo
     -- the grants are for what is made VALID
     new_granted : (n : ℕ) → length (filter (is_for v n) gs) ≡ one_if (is_valid_at v.instances n && not (is_valid_at w.instances n))
     new_granted n =
-        count_agree (is_for v n) (is_at n) gs (All-weaker (IsGrantOf w)
-        (λ (grant : Grant). (grant.workunit == v.number && grant.n == n) ≡ (grant.n == n))
-        (λ grant at. and_is (grant.workunit == v.number) (grant.n == n) (eq-eqb grant.workunit v.number (at ∙ sym rewrites.number))) gs
-        rewrites.granted.workunit)
+        count_agree (is_for v n) (is_at n) gs
+        (λ k d low. rw (eq-eqb (get_or gs k d).workunit v.number (rewrites.granted.workunit k d low ∙ sym rewrites.number)))
         ∙ rewrites.granted.each n
 
     -- the row is for what is made DONE
     new_archived : length (filter (is_row_of v) kept) ≡ one_if (is_done v && not (is_done w))
     new_archived =
-        count_all (is_row_of v) kept (All-weaker (IsItsRow w v) (λ (row : Archived). (row.number == v.number) ≡ true)
-        (λ row at. eq-eqb row.number v.number (at.0 ∙ sym rewrites.number)) kept rewrites.archives.own)
+        count_all (is_row_of v) kept (λ k d low. eq-eqb (get_or kept k d).number v.number ((rewrites.archives.own k d low).0 ∙ sym rewrites.number))
         ∙ rewrites.archives.once
 
     -- so its grants and its row agree with it again
@@ -237,11 +219,8 @@ module _ (world : World) (young : class_version ≤ world.version) (us : List Wo
           (λ k d low same. row_kept (get_or world.archived k d) (was_done k d low (same ∙ rewrites.number)) (its.as_archived k d low (same ∙ rewrites.number)))
           (All-weaker (IsItsRow w v) (IsOwnRow v) (λ row at same. at.2) kept rewrites.archives.own);
       named = All-append (IsNamedAlike v) world.archived kept
-          (All-weaker (IsNamedAlike w) (IsNamedAlike v)
-          (λ row is. (λ same. is.0 (same ∙ rewrites.name) ∙ sym rewrites.number, λ same. is.1 (same ∙ rewrites.number) ∙ sym rewrites.name)) world.archived
-          its.named)
-          (All-weaker (IsItsRow w v) (IsNamedAlike v)
-          (λ row at. (λ same. at.0 ∙ sym rewrites.number, λ same. at.1 ∙ sym rewrites.name)) kept rewrites.archives.own);
+          (λ k d low. let is = its.named k d low in (λ same. is.0 (same ∙ rewrites.name) ∙ sym rewrites.number, λ same. is.1 (same ∙ rewrites.number) ∙ sym rewrites.name))
+          (λ k d low. let at = rewrites.archives.own k d low in (λ same. at.0 ∙ sym rewrites.number, λ same. at.1 ∙ sym rewrites.name));
     }
 
     -- ---- grants and archived rows, each once

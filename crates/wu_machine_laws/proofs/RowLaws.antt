@@ -1,13 +1,10 @@
 -- Each row is taken in the world as the rows before it left it.
-use Rattle.std.proofs.Common.{◌≡◌, ◌≢◌, ℕ, suc, ◌==◌, nat_lt, Bool, true, false, List, [], ◌∷◌, slice_get, Option, Some, None, option_map, Result, Ok, Err, bytes_eq, refl, sym, ap, subst, ◌∙◌, inl, inr, eqb-true}
-use Rattle.std.proofs.lemmas.Bool.{cases_Bool, ne_eqb}
+use Rattle.std.proofs.Common.{◌≡◌, ◌≢◌, ℕ, suc, List, [], ◌∷◌, slice_get, Option, Some, None, option_map, Ok, bytes_eq, refl, sym, ap, subst, ◌∙◌}
 use Rattle.std.proofs.lemmas.Slice.Eq.{bytes_eq-Decides}
 use Rattle.std.specs.Option.{IsSomeAnd, option_and_then, option_map_or}
-use Rattle.std.specs.Prelude.{◌&&◌, not, if◌then◌else◌, IfSome}
+use Rattle.std.specs.Prelude.{IfSome}
 use Rattle.wu_core.specs.Classes.{class_of}
 use Rattle.wu_core.specs.World.{World}
-use Rattle.wu_core.specs.declared.fault.Fault.{Fault}
-use Rattle.wu_core.specs.declared.fault.Fault.TheVariants.{OldSchema}
 use Rattle.wu_core.specs.declared.import.ImportKind.{ImportKind}
 use Rattle.wu_core.specs.declared.import.ImportKind.TheVariants as kind
 use Rattle.wu_core.specs.declared.workunit.HostClass.{HostClass}
@@ -20,12 +17,13 @@ use Rattle.wu_feed.specs.declared.sends.SendRow.{SendRow}
 use Rattle.wu_rules_laws.proofs.Told.{reports, sends}
 use Rattle.wu_rules_laws.specs.Rows.{IsReported, IsSent, MayBeReported, MayBeSent}
 use Rattle.wu_machine.specs.FileRows.{Rule, after_row, after_rows, report_rule, row_verdict, row_verdicts, send_rule, unknown}
-use Rattle.wu_machine.specs.Imports.{Done, Given, imported_after, import_of, reported_given, rows_read, sent_given}
-use Rattle.wu_machine.specs.Machine.{is_upgrade, present_version, reply_of, world_of}
+use Rattle.wu_machine.specs.Imports.{Given, import_of, reported_given, rows_read, sent_given}
+use Rattle.wu_machine.specs.Machine.{reply, reply_of, step, world_of}
 use Rattle.wu_machine.specs.Requests.{AskReported, AskSent, Imported}
 use Rattle.wu_machine.specs.Worlds.{with_named, workunit_named}
 use Rattle.wu_machine_laws.proofs.FileLaws.{found_passes, image_found, made, may_report, may_send, named_made, row_applied}
 use Rattle.wu_machine_laws.proofs.LeavingLaws.{Keeps, each_named, reports_keep, rows_change, sends_keep}
+use Rattle.wu_machine_laws.proofs.Results.{either, not_older, row_by}
 use Rattle.wu_machine_laws.specs.Files.{OfInstance}
 use Rattle.wu_machine_laws.specs.Rows.{IsVerdict, LeavesAllBut, LeavesUnnamedInstances, MakesOf, NoneIsOf, RowByRow, RowsSeeRows, TakesReport, TakesSend, instance_in}
 
@@ -52,12 +50,8 @@ module _ {Row : Type 0} (rule : Rule Row) (keeps : Keeps rule) (place : Row → 
       ap (option_and_then (λ (w : Workunit). slice_get w.instances n)) (named_made rule keeps world row name) ∙ by (workunit_named world name) refl
     where
       at : (w : Workunit) → w.name ≡ name → slice_get (made rule keeps row w).instances n ≡ slice_get w.instances n
-      at w is = elim (cases_Bool (bytes_eq w.name (rule.workunit row))) [
-        | inr other ↦ ap (λ b. slice_get (if b then rule.image row w else w).instances n) other
-        | inl same ↦
-            ap (λ b. slice_get (if b then rule.image row w else w).instances n) same
-            ∙ only row w n (off (sym is ∙ (bytes_eq-Decides w.name (rule.workunit row)).0 same))
-      ]
+      at w is = either (λ (v : Workunit). slice_get v.instances n ≡ slice_get w.instances n) (bytes_eq w.name (rule.workunit row)) _ _
+          (λ same. only row w n (off (sym is ∙ (bytes_eq-Decides w.name (rule.workunit row)).0 same))) (λ other. refl)
 
       by : (o : Option Workunit) → workunit_named world name ≡ o
           → option_and_then (λ (w : Workunit). slice_get w.instances n) (option_map (made rule keeps row) o) ≡ option_and_then (λ (w : Workunit). slice_get w.instances n) o
@@ -67,12 +61,8 @@ module _ {Row : Type 0} (rule : Rule Row) (keeps : Keeps rule) (place : Row → 
   -- so does a row, whether it is applied or not
   row_leaves : (world : World) (row : Row) (name : List ℕ) (n : ℕ) → (row_verdict rule world row ≡ 0 → name ≡ rule.workunit row → n ≢ place row)
       → instance_in (after_row rule world row) name n ≡ instance_in world name n
-  row_leaves world row name n off = elim (cases_Bool (row_verdict rule world row == 0)) [
-    | inr skipped ↦ ap (λ b. instance_in (if b then with_named world (rule.workunit row) (rule.image row) else world) name n) skipped
-    | inl applied ↦
-        ap (λ b. instance_in (if b then with_named world (rule.workunit row) (rule.image row) else world) name n) applied
-        ∙ made_leaves world row name n (off (eqb-true _ _ applied))
-  ]
+  row_leaves world row name n off =
+      row_by rule (λ after. instance_in after name n ≡ instance_in world name n) world row refl (λ nought. made_leaves world row name n (off nought))
 
   rows_leave : (rows : List Row) (world : World) (name : List ℕ) (n : ℕ) → NoneIsOf rule.workunit place rows (row_verdicts rule world rows) name n
       → instance_in (after_rows rule world rows) name n ≡ instance_in world name n
@@ -88,8 +78,7 @@ module _ {Row : Type 0} (rule : Rule Row) (keeps : Keeps rule) (place : Row → 
   }
 
   row_skipped : (world : World) (row : Row) → row_verdict rule world row ≢ 0 → after_row rule world row ≡ world
-  row_skipped world row off =
-      ap (λ b. if b then with_named world (rule.workunit row) (rule.image row) else world) (ne_eqb (row_verdict rule world row) 0 off)
+  row_skipped world row off = row_by rule (λ after. after ≡ world) world row refl (λ nought. absurd (off nought))
 
   -- an applied row makes of its instance what its rule makes
   row_makes : (Becomes : Row → Workunit → Instance → Instance → Type 0)
@@ -107,25 +96,19 @@ module _ {Row : Type 0} (rule : Rule Row) (keeps : Keeps rule) (place : Row → 
     row_by_row [] world after same = same
     row_by_row (row ∷ rows) world after same = (after_row rule world row, takes world row, row_by_row rows (after_row rule world row) after same)
 
-    -- what is answered of a file
-    abbrev Follows : World → List Row → Result Done Fault → Type 0
-    Follows world rows result =
-        (k : ImportKind) (name verdicts : List ℕ) → reply_of result ≡ Ok (Imported k name 0 verdicts)
-        → RowByRow Takes rows verdicts world (world_of world result)
-        × ((workunit : List ℕ) (n : ℕ) → NoneIsOf rule.workunit place rows verdicts workunit n → instance_in (world_of world result) workunit n ≡ instance_in world workunit n)
+    -- a file of these rows with these verdicts takes them so, and leaves each instance that no applied row is of
+    abbrev Follows : World → List Row → List ℕ → World → Type 0
+    Follows world rows verdicts after =
+        RowByRow Takes rows verdicts world after
+        × ((workunit : List ℕ) (n : ℕ) → NoneIsOf rule.workunit place rows verdicts workunit n → instance_in after workunit n ≡ instance_in world workunit n)
 
-    file_follows : (world : World) (given : Given) (rows : List Row) (file : Result (List Row) Fault) → file ≡ Ok rows → Follows world rows (rows_read rule given world file)
-    file_follows world given rows file is =
-        subst (λ r. Follows world rows (rows_read rule given world r)) (sym is) (λ k name verdicts answered.
-        (let same : row_verdicts rule world rows ≡ verdicts = cc in
-        subst (λ vs. RowByRow Takes rows vs world (world_of world (rows_read rule given world (Ok rows)))
-        × ((workunit : List ℕ) (n : ℕ) → NoneIsOf rule.workunit place rows vs workunit n → instance_in (world_of world (rows_read rule given world (Ok rows))) workunit n ≡ instance_in world workunit n)) same
-        (row_by_row rows world (world_of world (rows_read rule given world (Ok rows))) refl, rows_leave rows world)))
-
-    unless_older : (b : Bool) (world : World) (rows : List Row) (fault : Fault) (result : Result Done Fault) → Follows world rows result
-        → Follows world rows (if b then Err fault else result)
-    unless_older true world rows fault result it k name verdicts answered = absurd (cc)
-    unless_older false world rows fault result it k name verdicts answered = it k name verdicts answered
+    file_follows : (world : World) (given : Given) (rows : List Row) (k : ImportKind) (name verdicts : List ℕ)
+        → reply_of (rows_read rule given world (Ok rows)) ≡ Ok (Imported k name 0 verdicts)
+        → Follows world rows verdicts (world_of world (rows_read rule given world (Ok rows)))
+    file_follows world given rows k name verdicts answered =
+        let same : row_verdicts rule world rows ≡ verdicts = cc in
+        subst (λ vs. Follows world rows vs (world_of world (rows_read rule given world (Ok rows)))) same
+        (row_by_row rows world (world_of world (rows_read rule given world (Ok rows))) refl, rows_leave rows world)
 
 -- ---- sends
 
@@ -163,35 +146,31 @@ takes_report world row = record {
 -- ---- the laws
 
 sent_follows : (world : World) (name file verdicts : List ℕ) (rows : List SendRow) → import_of world (sent_given name file) ≡ None → sends_of_file file ≡ Ok rows
+    → reply world (AskSent name file) ≡ Ok (Imported kind.Sent name 0 verdicts)
     → Follows (send_rule world.classes) (sends_keep world.classes) (λ row. row.n) (only_sent world.classes) (TakesSend world.classes) (takes_send world.classes) world rows
-    (if nat_lt world.version present_version && not (is_upgrade (AskSent name file)) then Err (OldSchema world.version)
-    else imported_after world (sent_given name file) (import_of world (sent_given name file)))
-sent_follows world name file verdicts rows new is =
-    unless_older (send_rule world.classes) (sends_keep world.classes) (λ row. row.n) (only_sent world.classes) (TakesSend world.classes) (takes_send world.classes)
-    (nat_lt world.version present_version && not (is_upgrade (AskSent name file))) world rows (OldSchema world.version)
-    (imported_after world (sent_given name file) (import_of world (sent_given name file)))
-    (subst (λ earlier. Follows (send_rule world.classes) (sends_keep world.classes) (λ row. row.n) (only_sent world.classes) (TakesSend world.classes) (takes_send world.classes) world rows (imported_after world (sent_given name file) earlier)) (sym new)
-    (file_follows (send_rule world.classes) (sends_keep world.classes) (λ row. row.n) (only_sent world.classes) (TakesSend world.classes) (takes_send world.classes) world (sent_given name file) rows (sends_of_file file) is))
+    verdicts (step world (AskSent name file))
+sent_follows world name file verdicts rows new is answered =
+    let younger = not_older world (AskSent name file) _ refl answered in
+    let classes = world.classes in
+    rw (younger, new, is) (file_follows (send_rule classes) (sends_keep classes) (λ row. row.n) (only_sent classes) (TakesSend classes) (takes_send classes) world
+    (sent_given name file) rows kind.Sent name verdicts (rw (younger, new, is) at answered))
 
 reported_follows : (world : World) (name file verdicts : List ℕ) (rows : List ReportRow) → import_of world (reported_given name file) ≡ None → reports_of_file file ≡ Ok rows
-    → Follows report_rule reports_keep (λ row. row.n) only_reported TakesReport takes_report world rows
-    (if nat_lt world.version present_version && not (is_upgrade (AskReported name file)) then Err (OldSchema world.version)
-    else imported_after world (reported_given name file) (import_of world (reported_given name file)))
-reported_follows world name file verdicts rows new is =
-    unless_older report_rule reports_keep (λ row. row.n) only_reported TakesReport takes_report
-    (nat_lt world.version present_version && not (is_upgrade (AskReported name file))) world rows (OldSchema world.version)
-    (imported_after world (reported_given name file) (import_of world (reported_given name file)))
-    (subst (λ earlier. Follows report_rule reports_keep (λ row. row.n) only_reported TakesReport takes_report world rows (imported_after world (reported_given name file) earlier)) (sym new)
-    (file_follows report_rule reports_keep (λ row. row.n) only_reported TakesReport takes_report world (reported_given name file) rows (reports_of_file file) is))
+    → reply world (AskReported name file) ≡ Ok (Imported kind.Reported name 0 verdicts)
+    → Follows report_rule reports_keep (λ row. row.n) only_reported TakesReport takes_report world rows verdicts (step world (AskReported name file))
+reported_follows world name file verdicts rows new is answered =
+    let younger = not_older world (AskReported name file) _ refl answered in
+    rw (younger, new, is) (file_follows report_rule reports_keep (λ row. row.n) only_reported TakesReport takes_report world (reported_given name file) rows kind.Reported
+    name verdicts (rw (younger, new, is) at answered))
 
 pub rows_see_rows : RowsSeeRows
 rows_see_rows world name file verdicts = record {
-  sent = λ rows new is answered. (sent_follows world name file verdicts rows new is kind.Sent name verdicts answered).0;
-  reported = λ rows new is answered. (reported_follows world name file verdicts rows new is kind.Reported name verdicts answered).0;
+  sent = λ rows new is answered. (sent_follows world name file verdicts rows new is answered).0;
+  reported = λ rows new is answered. (reported_follows world name file verdicts rows new is answered).0;
 }
 
 pub leaves_unnamed_instances : LeavesUnnamedInstances
 leaves_unnamed_instances world name file verdicts = record {
-  sent = λ rows new is answered. (sent_follows world name file verdicts rows new is kind.Sent name verdicts answered).1;
-  reported = λ rows new is answered. (reported_follows world name file verdicts rows new is kind.Reported name verdicts answered).1;
+  sent = λ rows new is answered. (sent_follows world name file verdicts rows new is answered).1;
+  reported = λ rows new is answered. (reported_follows world name file verdicts rows new is answered).1;
 }

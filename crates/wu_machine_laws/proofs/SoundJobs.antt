@@ -7,7 +7,7 @@ use Rattle.std.proofs.lemmas.Option.{slice_get_past}
 use Rattle.std.proofs.lemmas.Slice.Eq.{bytes_eq-Decides}
 use Rattle.std.specs.List.{All, enumerate_from}
 use Rattle.std.specs.Option.{option_map_or}
-use Rattle.std.specs.Prelude.{◌&&◌, find, slice_get}
+use Rattle.std.specs.Prelude.{◌&&◌, find, get_or, slice_get}
 use Rattle.wu_core.specs.Codes.{import_kind_code}
 use Rattle.wu_core.specs.Formed.{IsInstance, IsWorkunit}
 use Rattle.wu_core.specs.Limits.{most_workunits}
@@ -19,12 +19,13 @@ use Rattle.wu_core.specs.declared.workunit.Instance.{Instance}
 use Rattle.wu_core.specs.declared.workunit.Workunit.{Workunit}
 use Rattle.wu_feed.specs.Ranges.{IsJob}
 use Rattle.wu_feed.specs.declared.jobs.Job.{Job}
-use Rattle.wu_rules.specs.Consistent.{HostsApart, IsConsistent, IsGrantFor, IsPossible, is_valid_at, is_valid_verdict, one_if}
+use Rattle.wu_rules.specs.Consistent.{HostsApart, IsConsistent, IsPossible, is_valid_at, is_valid_verdict, one_if}
 use Rattle.wu_core.specs.Storable.{AreVerdicts, IsName, IsStorable}
 use Rattle.wu_machine.specs.Batches.{first_taken, is_one_of, job_names, new_workunit, taken_names, with_jobs}
 use Rattle.wu_machine.proofs.BatchKeeps.{new_storable, news, with_kept}
 use Rattle.wu_machine.specs.Sound.{IsGiven, IsRecorded, IsSound}
-use Rattle.wu_machine_laws.proofs.Lasts.{Came, came_all, Lasts, lasts_same, lasts_then, Leads, names_more, not_one_of}
+use Rattle.wu_machine_laws.proofs.Lasts.{Came, came_all, Lasts, lasts_beside, Leads, leads_same, leads_then, names_more, not_one_of}
+use Rattle.wu_machine_laws.proofs.SoundLemmas.{sound_beside}
 use Rattle.wu_machine_laws.proofs.Middles.{count_none, from_pairs, Pairs, pairs_append, pairs_around, pairs_of_one, to_pairs}
 use Rattle.wu_machine_laws.proofs.SoundParts.{Differ, ImportsDiffer, IsGrantIn, IsIn, IsRowIn, Ordered}
 
@@ -85,16 +86,12 @@ module _ (world : World) (sound : IsSound world) (params : Parameters) (job : Jo
   new_recorded : All (λ (row : Archived). row.name ≢ job.name) world.archived → IsRecorded with_new new
   new_recorded free = record {
     granted = λ n. count_none (λ (grant : Grant). grant.workunit == world.next_number && grant.n == n) world.grants
-        (All-weaker (IsGrantIn world) (λ (grant : Grant). (grant.workunit == world.next_number && grant.n == n) ≡ false)
-        (λ grant given. let below = given.0.1 in let off : (grant.workunit == world.next_number) ≡ false =
-        ne_eqb grant.workunit world.next_number (λ same. absurd (omega (arith, below, same))) in rw off refl) world.grants sound.grants)
-        ∙ sym (none_valid n);
-    own = All-weaker (IsGrantIn world) (λ (grant : Grant). grant.workunit ≡ world.next_number → IsGrantFor new grant)
-        (λ grant given same. let below = given.0.1 in absurd (omega (arith, below, same))) world.grants sound.grants;
+        (λ k d within. let below = (sound.grants k d within).0.1 in
+        rw (ne_eqb (get_or world.grants k d).workunit world.next_number (λ same. absurd (omega (arith, below, same))))) ∙ sym (none_valid n);
+    own = λ k d within same. let below = (sound.grants k d within).0.1 in absurd (omega (arith, below, same));
     archived = count_none (λ (row : Archived). row.number == world.next_number) world.archived
-        (All-weaker (IsRowIn world) (λ (row : Archived). (row.number == world.next_number) ≡ false)
-        (λ row given. let below = given.1 in ne_eqb row.number world.next_number (λ same. absurd (omega (arith, below, same)))) world.archived
-        sound.archived);
+        (λ k d within. let below = (sound.archived k d within).1 in
+        ne_eqb (get_or world.archived k d).number world.next_number (λ same. absurd (omega (arith, below, same))));
     as_archived = λ k d within same. let below = (sound.archived k d within).1 in absurd (omega (arith, below, same));
     named = λ k d within. let below = (sound.archived k d within).1 in (λ same. absurd (free k d within same), λ same. absurd (omega (arith, below, same)));
   }
@@ -149,9 +146,8 @@ module _ (params : Parameters) (ranged : IsParameters params) where
       → Pairs Differ (world.workunits ++ news params (enumerate_from world.next_number jobs))
       → All (λ (job : Job). All (λ (row : Archived). row.name ≢ job.name) world.archived) jobs → Leads world (with_jobs world params jobs)
   sound_jobs [] each world sound few apart free =
-      let same : world.next_number ≡ world.next_number + 0 = omega arith in
-      subst (λ n. Leads world (record world { workunits = world.workunits ++ []; next_number = n })) same
-      (subst (λ ws. Leads world (record world { workunits = ws })) (sym (append-nil world.workunits)) (sound, lasts_same world))
+      let none : world.next_number + 0 ≡ world.next_number = omega arith in
+      rw (append-nil world.workunits, none) (leads_same world sound)
   sound_jobs (job ∷ jobs) each world sound few apart free =
       let low : world.next_number ≤ most_workunits = omega (arith, few) in
       let one : Workunit = new_workunit params world.next_number job in
@@ -164,11 +160,9 @@ module _ (params : Parameters) (ranged : IsParameters params) where
       (subst (Pairs Differ) (sym (append_assoc world.workunits (one ∷ []) more)) apart)
       (All-tail (λ (it : Job). All (λ (row : Archived). row.name ≢ it.name) world.archived) job jobs free) in
       let both : Leads world (with_jobs after params jobs) =
-      (rest.0, lasts_then world after (with_jobs after params jobs) (lasts_new world sound params job ranged (All-head IsJob job jobs each) low) rest.1) in
+      leads_then world after (with_jobs after params jobs) (next, lasts_new world sound params job ranged (All-head IsJob job jobs each) low) rest in
       let count : (world.next_number + 1) + length jobs ≡ world.next_number + length (job ∷ jobs) = omega arith in
-      subst (λ n. Leads world (record world { workunits = world.workunits ++ one ∷ more; next_number = n })) count
-      (subst (λ ws. Leads world (record world { workunits = ws; next_number = (world.next_number + 1) + length jobs }))
-      (append_assoc world.workunits (one ∷ []) more) both)
+      rw (append_assoc world.workunits (one ∷ []) more, count) at both
 
 -- ---- names that are free
 
@@ -209,7 +203,16 @@ not_found p (x ∷ xs) none = elim (cases_Bool (p x)) [
 pub sound_kept : (world : World) → IsSound world → (import : Import) → IsName import.name → AreVerdicts import.kind import.verdicts
     → find (is_import import.kind import.name) world.imports ≡ None
     → Leads world (with_kept import world)
-sound_kept world sound import named told fresh = (kept, lasts)
+sound_kept world sound import named told fresh =
+    let imports = world.imports ++ import ∷ [] in (
+      sound_beside world imports world.classes world.version sound
+          (All-push (λ (i : Import). IsName i.name × AreVerdicts i.kind i.verdicts) world.imports import sound.imports (named, told))
+          (from_pairs ImportsDiffer imports (pairs_more ImportsDiffer world.imports import (to_pairs ImportsDiffer world.imports sound.imported_once)
+          (All-weaker (λ (i : Import). is_import import.kind import.name i ≡ false) (λ (i : Import). i.kind ≡ import.kind → i.name ≢ import.name) other
+          world.imports (not_found (is_import import.kind import.name) world.imports fresh))))
+          sound.classed sound.classes_in_order sound.classes_in_time,
+      lasts_beside world imports world.classes world.version,
+    )
   where
     other : (i : Import) → is_import import.kind import.name i ≡ false → i.kind ≡ import.kind → i.name ≢ import.name
     other i off same_kind same_name =
@@ -219,40 +222,3 @@ sound_kept world sound import named told fresh = (kept, lasts)
         let is : is_import import.kind import.name i ≡ true = rw (one, two) refl in
         let both : true ≡ false = sym is ∙ off in
         cc
-
-    kept : IsSound (with_kept import world)
-    kept = record {
-      next_number = sound.next_number;
-      formed = sound.formed;
-      storable = sound.storable;
-      granted_to = sound.granted_to;
-      archivable = sound.archivable;
-      imports = All-push (λ (i : Import). IsName i.name × AreVerdicts i.kind i.verdicts) world.imports import sound.imports (named, told);
-      consistent = sound.consistent;
-      recorded = All-weaker (IsRecorded world) (IsRecorded (with_kept import world))
-          (λ w it. record { granted = it.granted; own = it.own; archived = it.archived; as_archived = it.as_archived; named = it.named }) world.workunits sound.recorded;
-      given = sound.given;
-      ascending = sound.ascending;
-      names = sound.names;
-      archived = sound.archived;
-      archived_masks = sound.archived_masks;
-      archived_once = sound.archived_once;
-      archived_names = sound.archived_names;
-      grants = sound.grants;
-      granted_once = sound.granted_once;
-      imported_once = from_pairs ImportsDiffer (world.imports ++ import ∷ []) (pairs_more ImportsDiffer world.imports import
-          (to_pairs ImportsDiffer world.imports sound.imported_once)
-          (All-weaker (λ (i : Import). is_import import.kind import.name i ≡ false) (λ (i : Import). i.kind ≡ import.kind → i.name ≢ import.name) other
-          world.imports (not_found (is_import import.kind import.name) world.imports fresh)));
-      classed = sound.classed;
-      classes_in_order = sound.classes_in_order;
-      classes_in_time = sound.classes_in_time;
-    }
-
-    lasts : Lasts world (with_kept import world)
-    lasts = record {
-      next = omega arith;
-      came = came_all world;
-      names = λ name is. is;
-      apart = λ all. all;
-    }

@@ -1,12 +1,16 @@
 -- What follows from soundness.
 use Rattle.std.proofs.Common.{ℕ, suc, ◌<◌, ◌≤◌, List, [], ◌∷◌, length, get_or, arith}
 use Rattle.std.proofs.lemmas.List.Elements.{All-get_or, All-nil, All-weaker}
+use Rattle.std.specs.List.{All, AllPairs}
+use Rattle.wu_core.specs.Classes.{AreClassed, AreInOrder}
 use Rattle.wu_core.specs.Limits.{class_version}
 use Rattle.wu_core.specs.World.{World, Import, empty_world}
+use Rattle.wu_core.specs.declared.workunit.HostClass.{HostClass}
 use Rattle.wu_core.specs.declared.workunit.Workunit.{Workunit}
 use Rattle.wu_core.specs.Storable.{AreVerdicts, IsName, IsAbove}
 use Rattle.wu_machine.specs.Machine.{present_version}
-use Rattle.wu_machine.specs.Sound.{IsProject, IsGiven, IsRecorded, IsSound}
+use Rattle.wu_machine.specs.Sound.{HasClassesInTime, IsProject, IsGiven, IsRecorded, IsSound}
+use Rattle.wu_machine_laws.proofs.SoundParts.{ImportsDiffer}
 
 -- where all numbers are below this one, it is above them
 above_from : (n : ℕ) (ws : List Workunit) → ((i : ℕ) (d : Workunit) → i < length ws → (get_or ws i d).number < n) → IsAbove n ws
@@ -25,8 +29,7 @@ is_project world sound first known = record {
   known = known;
   above = sound_above world sound;
   next = sound.next_number;
-  verdicts = All-weaker (λ (i : Import). IsName i.name × AreVerdicts i.kind i.verdicts) (λ (i : Import). AreVerdicts i.kind i.verdicts)
-      (λ i is. is.1) world.imports sound.imports;
+  verdicts = λ k d low. (sound.imports k d low).1;
   storable = sound.storable;
   names = sound.names;
   classed = sound.classed;
@@ -41,17 +44,20 @@ now_of world = record world { version = present_version }
 pub too_old : {A : Type 0} (version : ℕ) → class_version ≤ version → version < class_version → A
 too_old version young old = absurd (omega (arith, young, old))
 
--- at the present version it is sound too
-pub sound_now : (world : World) → IsSound world → IsSound (now_of world)
-sound_now world sound = record {
+-- other imports, classes of hosts and versions that are sound leave a world sound
+pub sound_beside : (world : World) (imports : List Import) (classes : List HostClass) (version : ℕ) → IsSound world
+    → All (λ (i : Import). IsName i.name × AreVerdicts i.kind i.verdicts) imports → AllPairs ImportsDiffer imports → AreClassed classes → AreInOrder classes
+    → HasClassesInTime (record world { imports = imports; classes = classes; version = version })
+    → IsSound (record world { imports = imports; classes = classes; version = version })
+sound_beside world imports classes version sound named once classed ordered in_time = record {
   next_number = sound.next_number;
   formed = sound.formed;
   storable = sound.storable;
   granted_to = sound.granted_to;
   archivable = sound.archivable;
-  imports = sound.imports;
+  imports = named;
   consistent = sound.consistent;
-  recorded = All-weaker (IsRecorded world) (IsRecorded (now_of world))
+  recorded = All-weaker (IsRecorded world) (IsRecorded _)
       (λ w is. record { granted = is.granted; own = is.own; archived = is.archived; as_archived = is.as_archived; named = is.named }) world.workunits sound.recorded;
   given = sound.given;
   ascending = sound.ascending;
@@ -62,11 +68,17 @@ sound_now world sound = record {
   archived_names = sound.archived_names;
   grants = sound.grants;
   granted_once = sound.granted_once;
-  imported_once = sound.imported_once;
-  classed = sound.classed;
-  classes_in_order = sound.classes_in_order;
-  classes_in_time = too_old present_version (omega arith);
+  imported_once = once;
+  classed = classed;
+  classes_in_order = ordered;
+  classes_in_time = in_time;
 }
+
+-- at the present version it is sound too
+pub sound_now : (world : World) → IsSound world → IsSound (now_of world)
+sound_now world sound =
+    sound_beside world world.imports world.classes present_version sound sound.imports sound.imported_once sound.classed sound.classes_in_order
+    (too_old present_version (omega arith))
 
 -- a sound world at the present version is one that a command runs over
 pub project_now : (world : World) → IsSound world → IsProject (now_of world)

@@ -39,10 +39,7 @@ is_for w n grant = grant.workunit == w.number && grant.n == n
 abbrev pub is_at : ℕ → Grant → Bool
 is_at n grant = grant.n == n
 
--- of the workunit; if so, for the host of its instance
-abbrev pub IsGrantOf : Workunit → Grant → Type 0
-IsGrantOf w grant = grant.workunit ≡ w.number
-
+-- for the host of its instance, if it is of the workunit
 abbrev pub IsOwn : Workunit → Grant → Type 0
 IsOwn w grant = grant.workunit ≡ w.number → IsGrantFor w grant
 

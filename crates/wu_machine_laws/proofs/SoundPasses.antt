@@ -10,11 +10,12 @@ use Rattle.std.specs.Prelude.{◌+◌, ◌&&◌, nat_le, ◌||◌, if◌then◌e
 use Rattle.wu_core.specs.Formed.{IsWorkunit}
 use Rattle.wu_core.specs.Limits.{class_version, last_moment, longest_output}
 use Rattle.wu_core.specs.World.{World}
+use Rattle.wu_core.specs.declared.workunit.Grant.{Grant}
 use Rattle.wu_core.specs.declared.workunit.Instance.{Instance}
 use Rattle.wu_core.specs.declared.workunit.Workunit.{Workunit}
 use Rattle.wu_rules.specs.Assimilation.{archived, archived_row, canonical_output, is_purgeable, is_spent}
 use Rattle.wu_rules.specs.Instances.{is_deleted_file, is_done_assimilate, is_ready_assimilate}
-use Rattle.wu_rules.specs.Consistent.{IsConsistent, is_done}
+use Rattle.wu_rules.specs.Consistent.{IsConsistent, is_done, Rewrites}
 use Rattle.wu_rules_laws.proofs.Rewriting.{rewrites_unchanged, rules_rewrite}
 use Rattle.wu_rules.specs.Due.{changes, chosen}
 use Rattle.wu_core.specs.Storable.{IsStoredArchived, IsStoredInstance, IsStorable}
@@ -26,9 +27,10 @@ use Rattle.wu_machine.specs.Sound.{IsProject, IsSound}
 use Rattle.wu_machine.specs.Requests.{AskPass}
 use Rattle.wu_machine.proofs.PassKeeps.{keeps_project_pass}
 use Rattle.wu_machine.proofs.ImageLemmas.{gives_nothing}
-use Rattle.wu_machine_laws.proofs.Becoming.{Becomes, same_holding, sound_changed}
+use Rattle.wu_machine_laws.proofs.Becoming.{Becomes, sound_changed}
 use Rattle.wu_machine_laws.proofs.Lasts.{Leads}
 use Rattle.wu_machine_laws.proofs.Middles.{of_each, Pairs, to_pairs}
+use Rattle.wu_machine_laws.proofs.Results.{either}
 use Rattle.wu_machine_laws.proofs.SoundLemmas.{project_now, now_of}
 use Rattle.wu_machine_laws.proofs.SoundParts.{Ordered}
 
@@ -90,7 +92,7 @@ module _ {Y : Type 0} (f : Workunit → List Y) where
           (All-filter p (λ (t : Workunit). w.number < t.number) ws up.0))) ∙ more
 
 -- among those that are taken are only such as the test passes
-among_passed : (p : Workunit → Bool) (ws : List Workunit) (limit : ℕ) → Rising ws → All (λ w. is_among (take limit (filter p ws)) w ≡ true → p w ≡ true) ws
+pub among_passed : (p : Workunit → Bool) (ws : List Workunit) (limit : ℕ) → Rising ws → All (λ w. is_among (take limit (filter p ws)) w ≡ true → p w ≡ true) ws
 among_passed p [] limit up = All-nil (λ w. is_among (take limit (filter p [])) w ≡ true → p w ≡ true)
 among_passed p (w ∷ ws) zero up = λ k d low among. let never : false ≡ true = among in cc
 among_passed p (w ∷ ws) (suc n) up = elim (cases_Bool (p w)) [
@@ -128,17 +130,11 @@ output_short w storable = by w.canonical
 -- so is what is archived at a moment in range
 archived_stored : (w : Workunit) (now : ℕ) → now ≤ last_moment → IsStorable w → All IsStoredArchived (option_to_list (archived w now))
 unfolding archived
-archived_stored w now low storable = by (is_ready_assimilate w.assimilate)
-  where
-    by : (b : Bool) → All IsStoredArchived (option_to_list (if b then Some (archived_row w now) else None))
-    by true = All-cons IsStoredArchived (archived_row w now) [] (record {
-      name = storable.row.name;
-      canonical = storable.row.canonical;
-      output =
-          output_short w storable;
-      done_at = low;
-    }) (All-nil IsStoredArchived)
-    by false = All-nil IsStoredArchived
+archived_stored w now low storable =
+    either (λ row. All IsStoredArchived (option_to_list row)) (is_ready_assimilate w.assimilate) _ _ (λ ready.
+    All-cons IsStoredArchived (archived_row w now) []
+    (record { name = storable.row.name; canonical = storable.row.canonical; output = output_short w storable; done_at = low }) (All-nil IsStoredArchived))
+    (λ other. All-nil IsStoredArchived)
 
 -- a workunit that may be purged is DONE
 purged_done : (w : Workunit) (now min_age : ℕ) → is_purgeable w now min_age ≡ true → is_done w ≡ true
@@ -152,30 +148,22 @@ purged_done w now min_age is = by (is_done_assimilate w.assimilate) is
 
 -- ---- a pass
 
+-- one that is rewritten, and of which nothing is archived
+rewritten : (w v : Workunit) (gs : List Grant) → Rewrites w v gs [] → All IsStorable (v ∷ []) → Becomes w (v ∷ []) gs []
+rewritten w v gs rewrites stored = (rewrites, All-head IsStorable v [] stored, All-nil IsStoredArchived)
+
 module _ (pass : Pass) (now limit min_age : ℕ) (low : now ≤ last_moment) where
   -- what a pass that changes a workunit makes of it
   image_becomes : (w : Workunit) → IsWorkunit w → IsConsistent w → IsStorable w → (p : Pass) → changes p now min_age w ≡ true
       → All IsStorable (images p now w) → Becomes w (images p now w) (granted p w) (archives p now w)
-  image_becomes w formed consistent storable Transition is stored = (
-    (rules_rewrite w formed consistent).transitioned now,
-    All-head IsStorable _ [] stored,
-    All-nil IsStoredArchived,
-  )
-  image_becomes w formed consistent storable Validate is stored = (
-    (rules_rewrite w formed consistent).validated,
-    All-head IsStorable _ [] stored,
-    All-nil IsStoredArchived,
-  )
+  image_becomes w formed consistent storable Transition is stored = rewritten w _ _ ((rules_rewrite w formed consistent).transitioned now) stored
+  image_becomes w formed consistent storable Validate is stored = rewritten w _ _ (rules_rewrite w formed consistent).validated stored
   image_becomes w formed consistent storable Assimilate is stored = (
     (rules_rewrite w formed consistent).assimilated now,
     All-head IsStorable _ [] stored,
     archived_stored w now low storable,
   )
-  image_becomes w formed consistent storable Delete is stored = (
-    (rules_rewrite w formed consistent).emptied,
-    All-head IsStorable _ [] stored,
-    All-nil IsStoredArchived,
-  )
+  image_becomes w formed consistent storable Delete is stored = rewritten w _ _ (rules_rewrite w formed consistent).emptied stored
   image_becomes w formed consistent storable Purge is stored = (refl, refl, purged_done w now min_age is)
 
   module _ (world : World) (sound : IsSound world) (young : class_version ≤ world.version) (right : is_limit_right pass limit min_age ≡ true) where
@@ -206,18 +194,14 @@ module _ (pass : Pass) (now limit min_age : ℕ) (low : now ≤ last_moment) whe
         by : (b : Bool) → (b ≡ true → changes pass now min_age w ≡ true) → All IsStorable (if b then images pass now w else w ∷ [])
             → Becomes w (if b then images pass now w else w ∷ []) (if b then granted pass w else []) (if b then archives pass now w else [])
         by true is images_kept = image_becomes w formed consistent storable pass (is refl) images_kept
-        by false is w_kept = (rewrites_unchanged w formed consistent, storable, All-nil IsStoredArchived)
+        by false is w_kept = rewritten w w [] (rewrites_unchanged w formed consistent) w_kept
 
     -- a pass leads to a sound world
     pub sound_passed : Leads world (passed pass now min_age limit world)
     sound_passed =
         let up = to_pairs Ordered world.workunits sound.ascending in
-        let all = flat_map change world.workunits in
-        let gives = picked (granted pass) taken in
-        let files = picked (archives pass now) taken in
-        same_holding world (Leads world) all all (world.grants ++ flat_map gives world.workunits) (world.grants ++ flat_map (granted pass) taken)
-        (world.archived ++ flat_map files world.workunits) (world.archived ++ flat_map (archives pass now) taken) refl
-        (ap (λ l. world.grants ++ l) (all_picked (granted pass) (changes pass now min_age) world.workunits limit up))
-        (ap (λ l. world.archived ++ l) (all_picked (archives pass now) (changes pass now min_age) world.workunits limit up))
-        (sound_changed world young change gives files sound (λ k d within. becomes _ (sound.formed k d within) (sound.consistent k d within)
-        (sound.storable k d within) (among_passed (changes pass now min_age) world.workunits limit up k d within) (stored k d within)))
+        let p = changes pass now min_age in
+        rw (all_picked (granted pass) p world.workunits limit up, all_picked (archives pass now) p world.workunits limit up) at
+        (sound_changed world young change (picked (granted pass) taken) (picked (archives pass now) taken) sound (λ k d within.
+        becomes _ (sound.formed k d within) (sound.consistent k d within) (sound.storable k d within)
+        (among_passed p world.workunits limit up k d within) (stored k d within)))

@@ -1,13 +1,13 @@
 -- A cancel, and a row of a file, keep a sound world sound.
-use Rattle.std.proofs.Common.{◌≡◌, ℕ, ◌≤◌, ◌==◌, Bool, true, false, List, [], ◌∷◌, ◌++◌, map, append-nil, Option, Some, None, bytes_eq, refl, sym, ap, subst, ◌∙◌, inl, inr, arith}
-use Rattle.std.proofs.lemmas.Bool.{cases_Bool, eqb-true}
+use Rattle.std.proofs.Common.{◌≡◌, ℕ, ◌≤◌, true, List, [], ◌∷◌, map, append-nil, Some, bytes_eq, refl, sym, subst, ◌∙◌, inl, inr}
+use Rattle.std.proofs.lemmas.Bool.{cases_Bool}
 use Rattle.std.proofs.lemmas.List.Concat.{flat_map_single}
-use Rattle.std.proofs.lemmas.List.Elements.{All-cons, All-head, All-nil, All-tail, All-weaker}
+use Rattle.std.proofs.lemmas.List.Elements.{All-cons, All-head, All-nil, All-tail}
 use Rattle.std.proofs.lemmas.Slice.Eq.{bytes_eq-Decides}
 use Rattle.std.specs.List.{All, flat_map}
 use Rattle.std.specs.Prelude.{find, if◌then◌else◌}
 use Rattle.wu_core.specs.Limits.{class_version}
-use Rattle.wu_core.specs.Classes.{AreClassed, class_of, IsClassed}
+use Rattle.wu_core.specs.Classes.{AreClassed, class_of, IsClassed, with_class}
 use Rattle.wu_core.specs.Formed.{IsWorkunit}
 use Rattle.wu_core.specs.World.{World}
 use Rattle.wu_core.specs.declared.workunit.Archived.{Archived}
@@ -21,26 +21,24 @@ use Rattle.wu_rules.specs.Cancelling.{cancelled}
 use Rattle.wu_rules.specs.Counts.{is_undecided}
 use Rattle.wu_rules.specs.Reporting.{report_verdict_in}
 use Rattle.wu_rules.specs.Sending.{send_verdict_in}
-use Rattle.wu_rules.specs.Verdicts.{send_verdict_code}
-use Rattle.wu_rules.specs.declared.verdicts.SendVerdict.{SendVerdict}
-use Rattle.wu_rules.specs.declared.verdicts.SendVerdict.TheVariants as send
 use Rattle.wu_rules.specs.Consistent.{IsConsistent, Rewrites}
 use Rattle.wu_rules_laws.proofs.Rewriting.{rewrites_unchanged, rules_rewrite}
 use Rattle.wu_core.specs.Storable.{IsStoredArchived, IsStorable}
 use Rattle.wu_core.proofs.ClassLemmas.{classed-set, in_order-set}
 use Rattle.wu_machine.specs.FileRows.{Rule, after_classes, after_row, after_rows, report_rule, row_verdict, send_rule}
 use Rattle.wu_machine.specs.Machine.{cancel_done, IsUpToDate, step, world_of}
-use Rattle.wu_machine.specs.Sound.{IsProject, IsRecorded, IsSound}
+use Rattle.wu_machine.specs.Sound.{IsProject, IsSound}
 use Rattle.wu_machine.specs.Requests.{AskCancel}
 use Rattle.wu_machine.specs.Worlds.{with_host_class, with_named, workunit_named}
 use Rattle.wu_machine.proofs.PassKeeps.{keeps_project_cancel}
 use Rattle.wu_machine.proofs.ImageLemmas.{gives_nothing}
-use Rattle.wu_machine.proofs.ImportLemmas.{same_rows}
 use Rattle.wu_machine.proofs.StorableLemmas.{code_applied, reports_keep, sends_keep}
-use Rattle.wu_machine_laws.proofs.Becoming.{same_holding, sound_changed}
-use Rattle.wu_machine_laws.proofs.Lasts.{came_all, Leads, lasts_same, lasts_then}
+use Rattle.wu_machine_laws.proofs.Becoming.{sound_changed}
+use Rattle.wu_machine_laws.proofs.FileLaws.{send_zero}
+use Rattle.wu_machine_laws.proofs.Lasts.{lasts_beside, Leads, leads_same, leads_then}
 use Rattle.wu_machine_laws.proofs.Middles.{of_each, Pairs, to_pairs}
-use Rattle.wu_machine_laws.proofs.SoundLemmas.{now_of, project_now, too_old}
+use Rattle.wu_machine_laws.proofs.Results.{cancel_by, either, rows_by}
+use Rattle.wu_machine_laws.proofs.SoundLemmas.{now_of, project_now, sound_beside, too_old}
 use Rattle.wu_machine_laws.proofs.SoundParts.{Differ}
 
 -- ---- the workunit of a name changed
@@ -66,11 +64,13 @@ module _ (world : World) (sound : IsSound world) (young : class_version ≤ worl
       → Rewrites w (image w) [] [])
       → Leads world (with_named world name image)
   sound_named storable rewrites =
-      same_holding world (Leads world) (flat_map (λ w. changed w ∷ []) world.workunits) (map changed world.workunits)
-      (world.grants ++ flat_map no_grants world.workunits) world.grants
-      (world.archived ++ flat_map no_rows world.workunits) world.archived single
-      (ap (λ l. world.grants ++ l) (gives_nothing no_grants world.workunits (λ w. refl)) ∙ append-nil world.grants)
-      (ap (λ l. world.archived ++ l) (gives_nothing no_rows world.workunits (λ w. refl)) ∙ append-nil world.archived)
+      rw (
+        single,
+        gives_nothing no_grants world.workunits (λ w. refl),
+        gives_nothing no_rows world.workunits (λ w. refl),
+        append-nil world.grants,
+        append-nil world.archived,
+      ) at
       (sound_changed world young (λ w. changed w ∷ []) no_grants no_rows sound (λ k d low. (
         rewritten _ (found k d low) (sound.formed k d low) (sound.consistent k d low),
         All-head IsStorable _ [] (each k d low),
@@ -94,66 +94,42 @@ module _ (world : World) (sound : IsSound world) (young : class_version ≤ worl
 
       rewritten : (w : Workunit) → (bytes_eq w.name name ≡ true → workunit_named world name ≡ Some w) → IsWorkunit w → IsConsistent w
           → Rewrites w (changed w) [] []
-      rewritten w is formed consistent = by (bytes_eq w.name name) is
-        where
-          by : (b : Bool) → (b ≡ true → workunit_named world name ≡ Some w) → Rewrites w (if b then image w else w) [] []
-          by true here = rewrites w (here refl) formed consistent
-          by false here = rewrites_unchanged w formed consistent
+      rewritten w is formed consistent =
+          either (λ v. Rewrites w v [] []) (bytes_eq w.name name) _ _ (λ here. rewrites w (is here) formed consistent)
+          (λ other. rewrites_unchanged w formed consistent)
 
 -- ---- a cancel
 
 module _ (world : World) (sound : IsSound world) (young : class_version ≤ world.version) (name : List ℕ) where
-  -- a cancel of what is found under the name
-  cancel_found : (found : Option Workunit) → workunit_named world name ≡ found → Leads world (world_of world (cancel_done world name found))
-  cancel_found None is = (sound, lasts_same world)
-  cancel_found (Some w) is = elim (cases_Bool (is_undecided w)) [
-    | inl undecided ↦
-        let kept : IsProject (step (now_of world) (AskCancel name)) = keeps_project_cancel (now_of world) (project_now world sound) name in
-        let after : IsProject (with_named (now_of world) name cancelled) = rw (is, undecided) at kept in
-        rw undecided (sound_named world sound young name cancelled after.storable (λ v here formed consistent.
-        let same : w ≡ v = cc in
-        (rules_rewrite v formed consistent).cancelled (subst (λ u. is_undecided u ≡ true) same undecided)))
-    | inr decided ↦ rw decided (sound, lasts_same world)
-  ]
-
   -- a cancel leads to a sound world
   pub sound_cancelled : Leads world (world_of world (cancel_done world name (workunit_named world name)))
-  sound_cancelled = cancel_found (workunit_named world name) refl
+  sound_cancelled = cancel_by (Leads world) world (leads_same world sound) name (λ w is undecided.
+      let kept : IsProject (step (now_of world) (AskCancel name)) = keeps_project_cancel (now_of world) (project_now world sound) name in
+      let after : IsProject (with_named (now_of world) name cancelled) = rw (is, undecided) at kept in
+      sound_named world sound young name cancelled after.storable (λ v here formed consistent.
+      let same : w ≡ v = cc in
+      (rules_rewrite v formed consistent).cancelled (subst (λ u. is_undecided u ≡ true) same undecided)))
 
 -- ---- a row, and the rows of a file
 
 module _ {Row : Type 0} (rule : Rule Row) (IsRow : Row → Type 0) (keeps : (row : Row) → IsRow row → (world : World) → IsUpToDate world → IsProject world
     → IsProject (after_row rule world row))
     (rewrites : (row : Row) (w : Workunit) → IsWorkunit w → IsConsistent w → rule.verdict row w ≡ 0 → Rewrites w (rule.image row w) [] []) where
-  -- a row leads to a sound world
-  sound_row : (row : Row) → IsRow row → (world : World) → class_version ≤ world.version → IsSound world → Leads world (after_row rule world row)
-  sound_row row ranged world young sound = elim (cases_Bool (row_verdict rule world row == 0)) [
-    | inl applied ↦
-        let kept : IsProject (after_row rule (now_of world) row) = keeps row ranged (now_of world) refl (project_now world sound) in
-        let after : IsProject (with_named (now_of world) (rule.workunit row) (rule.image row)) = rw applied at kept in
-        let zero_is : row_verdict rule world row ≡ 0 = eqb-true (row_verdict rule world row) 0 applied in
-        rw applied (sound_named world sound young (rule.workunit row) (rule.image row) after.storable (λ w here formed consistent.
-        let verdict : rule.verdict row w ≡ 0 = rw here at zero_is in
-        rewrites row w formed consistent verdict))
-    | inr skipped ↦ rw skipped (sound, lasts_same world)
-  ]
+  -- an applied row leads to a sound world
+  sound_row : (world : World) (row : Row) → IsRow row → row_verdict rule world row ≡ 0 → class_version ≤ world.version → IsSound world
+      → Leads world (with_named world (rule.workunit row) (rule.image row))
+  sound_row world row ranged nought young sound =
+      let kept : IsProject (after_row rule (now_of world) row) = keeps row ranged (now_of world) refl (project_now world sound) in
+      let after : IsProject (with_named (now_of world) (rule.workunit row) (rule.image row)) = rw nought at kept in
+      sound_named world sound young (rule.workunit row) (rule.image row) after.storable (λ w here formed consistent.
+      let verdict : rule.verdict row w ≡ 0 = rw here at nought in
+      rewrites row w formed consistent verdict)
 
   -- so do the rows of a file
   pub sound_rows : (rows : List Row) → All IsRow rows → (world : World) → class_version ≤ world.version → IsSound world → Leads world (after_rows rule world rows)
-  sound_rows [] ranged world young sound = (sound, lasts_same world)
-  sound_rows (row ∷ rows) ranged world young sound =
-      let one : Leads world (after_row rule world row) = sound_row row (All-head IsRow row rows ranged) world young sound in
-      let still : class_version ≤ (after_row rule world row).version = subst (λ n. class_version ≤ n) (sym (same_rows rule world (row ∷ [])).version) young in
-      let rest = sound_rows rows (All-tail IsRow row rows ranged) (after_row rule world row) still one.0 in
-      (rest.0, lasts_then world (after_row rule world row) (after_rows rule (after_row rule world row) rows) one.1 rest.1)
-
--- the number 0 is that of a send that is applied
-pub send_applied : (verdict : SendVerdict) → send_verdict_code verdict ≡ 0 → verdict ≡ send.Applied
-send_applied send.Applied is = refl
-send_applied send.Unknown is = absurd cc
-send_applied send.NotUnsent is = absurd cc
-send_applied send.SameHost is = absurd cc
-send_applied send.Class is = absurd cc
+  sound_rows rows ranged world young sound =
+      (rows_by rule (λ after. Leads world after × (class_version ≤ after.version)) IsRow (λ between row is nought it.
+      (leads_then world between _ it.0 (sound_row between row is nought it.1 it.0.0), it.1)) rows ranged world (leads_same world sound, young)).0
 
 -- sends do
 pub sound_sends : (classes : List HostClass) → AreClassed classes → (rows : List SendRow) → All IsSendRow rows → (world : World) → class_version ≤ world.version
@@ -162,7 +138,7 @@ sound_sends classes are =
     sound_rows (send_rule classes) IsSendRow
     (λ row ranged world is project. sends_keep classes (row ∷ []) world are (All-cons IsSendRow row [] ranged (All-nil IsSendRow)) is project)
     (λ row w formed consistent applied. (rules_rewrite w formed consistent).sent row.n row.host (class_of classes row.host) row.moment
-    (send_applied (send_verdict_in w row.n row.host (class_of classes row.host)) applied))
+    (send_zero (send_verdict_in w row.n row.host (class_of classes row.host)) applied))
 
 -- reports do
 pub sound_reports : (rows : List ReportRow) → All IsReportRow rows → (world : World) → class_version ≤ world.version → IsSound world → Leads world (after_rows report_rule world rows)
@@ -174,41 +150,14 @@ sound_reports =
 
 -- ---- the rows of a file of classes
 
--- a host's class that is set leads to a sound world
-sound_classed : (it : HostClass) → IsClassed it → (world : World) → class_version ≤ world.version → IsSound world → Leads world (with_host_class world it)
-sound_classed it ranged world young sound = (
-  record {
-    next_number = sound.next_number;
-    formed = sound.formed;
-    storable = sound.storable;
-    granted_to = sound.granted_to;
-    archivable = sound.archivable;
-    imports = sound.imports;
-    consistent = sound.consistent;
-    recorded = All-weaker (IsRecorded world) (IsRecorded (with_host_class world it))
-        (λ w is. record { granted = is.granted; own = is.own; archived = is.archived; as_archived = is.as_archived; named = is.named }) world.workunits sound.recorded;
-    given = sound.given;
-    ascending = sound.ascending;
-    names = sound.names;
-    archived = sound.archived;
-    archived_masks = sound.archived_masks;
-    archived_once = sound.archived_once;
-    archived_names = sound.archived_names;
-    grants = sound.grants;
-    granted_once = sound.granted_once;
-    imported_once = sound.imported_once;
-    classed = classed-set it.host it.class world.classes ranged sound.classed;
-    classes_in_order = in_order-set it.host it.class world.classes sound.classes_in_order;
-    classes_in_time = too_old world.version young;
-  },
-  record { next = omega arith; came = came_all world; names = λ name is. is; apart = λ all. all },
-)
-
--- so do the rows of a file
+-- the rows of a file of classes lead to a sound world
 pub sound_classes : (rows : List HostClass) → AreClassed rows → (world : World) → class_version ≤ world.version → IsSound world
     → Leads world (after_classes world rows)
-sound_classes [] ranged world young sound = (sound, lasts_same world)
+sound_classes [] ranged world young sound = leads_same world sound
 sound_classes (row ∷ rows) ranged world young sound =
-    let one = sound_classed row (All-head IsClassed row rows ranged) world young sound in
-    let rest = sound_classes rows (All-tail IsClassed row rows ranged) (with_host_class world row) young one.0 in
-    (rest.0, lasts_then world (with_host_class world row) (after_classes (with_host_class world row) rows) one.1 rest.1)
+    let classes = with_class row.host row.class world.classes in
+    let set = sound_beside world world.imports classes world.version sound sound.imports sound.imported_once
+    (classed-set row.host row.class world.classes (All-head IsClassed row rows ranged) sound.classed)
+    (in_order-set row.host row.class world.classes sound.classes_in_order) (too_old world.version young) in
+    leads_then world (with_host_class world row) _ (set, lasts_beside world world.imports classes world.version)
+    (sound_classes rows (All-tail IsClassed row rows ranged) (with_host_class world row) young set)

@@ -1,7 +1,7 @@
 -- The active instances of a workunit are of one class.
-use Rattle.std.proofs.Common.{◌≡◌, ◌↔◌, ℕ, zero, suc, nat_lt, ◌+◌, Bool, true, false, cond, ◌&&◌, ◌||◌, List, [], ◌∷◌, map, length, slice_get, slice_set, Option, Some, None, IfSome, is_none, bytes_eq, refl, sym, ap, subst, ◌∙◌}
+use Rattle.std.proofs.Common.{◌≡◌, ◌↔◌, ℕ, zero, suc, nat_lt, ◌+◌, Bool, true, false, cond, ◌&&◌, ◌||◌, List, [], ◌∷◌, length, slice_set, Option, Some, None, IfSome, is_none, bytes_eq, refl, sym, ap, subst, ◌∙◌, arith}
 use Rattle.std.proofs.lemmas.List.Elements.{All-cons, All-from_recursion, All-head, All-nil, All-set, All-tail, All-weaker}
-use Rattle.std.specs.List.{All, AllByRecursion, list_any}
+use Rattle.std.specs.List.{All, AllByRecursion, list_any, slice_get}
 use Rattle.std.specs.Option.{IsSomeAnd, option_map_or}
 use Rattle.wu_core.specs.Classes.{class_of}
 use Rattle.wu_core.specs.Statuses.{outcome_of}
@@ -12,30 +12,32 @@ use Rattle.wu_core.specs.declared.workunit.Workunit.{Workunit}
 use Rattle.wu_core.specs.declared.states.Assimilate.TheVariants as assimilate
 use Rattle.wu_core.specs.declared.states.Outcome.{Outcome}
 use Rattle.wu_core.specs.declared.states.Outcome.TheVariants as outcome
+use Rattle.wu_core.specs.declared.states.ServerState.TheVariants as server
 use Rattle.wu_core.specs.declared.states.Status.{Status}
 use Rattle.wu_core.specs.declared.states.Status.TheVariants as status
-use Rattle.wu_core.specs.Workunit.{with_instance_set}
 use Rattle.wu_rules.specs.Assimilation.{assimilated, emptied}
 use Rattle.wu_rules.specs.Cancelling.{cancelled}
 use Rattle.wu_rules.specs.Consistent.{IsOneClass, instance_host}
-use Rattle.wu_rules.specs.Counts.{consensus, has_active, is_clear, viable}
-use Rattle.wu_rules.specs.Instances.{is_active, is_done_assimilate, is_in_progress, is_open_verdict, is_over, is_over_state, is_ready_assimilate, is_success, is_success_outcome, is_viable}
+use Rattle.wu_rules.specs.Counts.{has_active, is_clear, viable}
+use Rattle.wu_rules.specs.Instances.{is_active, is_done_assimilate, is_in_progress, is_open_verdict, is_ready_assimilate, is_success, is_success_outcome, is_viable}
 use Rattle.wu_rules.specs.Reporting.{report_verdict_in, report_verdict_of, reported_as, reported_in}
 use Rattle.wu_rules.specs.Sending.{send_verdict_in, send_verdict_of, sent_as, sent_in, sent_to}
 use Rattle.wu_rules.specs.Transition.{ended, extended, readied, settled, timed, transitioned, with_files_readied}
-use Rattle.wu_rules.specs.Validation.{checked, concluded, credited, decided, granted_by, granted_to, grants, grants_by, grants_decided, is_deleted_at, is_to_validate, judged_by, output_at, validated, validated_by, with_refused}
+use Rattle.wu_rules.specs.Validation.{checked, concluded, credited, granted_to, grants, grants_by, is_to_validate, judged_by, output_at, refused, validated, with_refused}
 use Rattle.wu_rules.specs.declared.verdicts.ReportVerdict.TheVariants as report
 use Rattle.wu_rules.specs.declared.verdicts.SendVerdict.TheVariants as send
 use Rattle.wu_rules.proofs.Keeping.{Keeps, StaysWithInstances, keeps_cancelled, keeps_checked, keeps_emptied, keeps_transitioned, keeps_validated}
 use Rattle.wu_rules_laws.specs.Consistent.{AgreesWithin, IdleIsOneClass, RulesKeepOneClass}
-use Rattle.wu_rules_laws.proofs.Becoming.{all_become, becomes_judged_by, judged_is_viable, over_is, same_host}
-use Rattle.wu_rules_laws.proofs.Changed.{or_left, or_right}
-use Rattle.wu_rules_laws.proofs.Checking.{checked_canonical, grants_are, validated_is}
+use Rattle.wu_rules_laws.proofs.Becoming.{all_become, becomes_judged_by, judged_is_viable, same_host}
+use Rattle.wu_rules_laws.proofs.Changed.{cond_has, or_left, or_right}
+use Rattle.wu_rules_laws.proofs.Checking.{checked_canonical, concluded_has, grants_are, validated_is}
 use Rattle.wu_rules_laws.proofs.Choosing.{chooses, left_open_keeps}
 use Rattle.wu_rules_laws.proofs.Granting.{granted_number, kept_all, names}
-use Rattle.wu_rules_laws.proofs.Rewriting.{holds_at, was_alike}
-use Rattle.wu_rules_laws.proofs.Spent.{and_left, and_right}
-use Rattle.wu_rules_laws.proofs.Told.{may_be_reported, set_here}
+use Rattle.wu_rules_laws.proofs.Hosted.{set_here}
+use Rattle.wu_rules_laws.proofs.Kept.{reported_has}
+use Rattle.wu_rules_laws.proofs.Rewriting.{holds_at, was_alike, was_no_success}
+use Rattle.wu_rules_laws.proofs.Spent.{and_left}
+use Rattle.wu_rules_laws.proofs.Told.{may_be_reported}
 
 -- ---- one instance
 
@@ -44,28 +46,15 @@ abbrev IsAlike : List HostClass → ℕ → Instance → Type 0
 IsAlike classes class i = is_active i ≡ true → IfSome i.host (λ host. class_of classes host ≡ class)
 
 viable_active : (i : Instance) → is_viable i ≡ true → is_active i ≡ true
-viable_active i e = by (is_in_progress i)
-  where
-    by : (b : Bool) → (b || is_viable i) ≡ true
-    by true = refl
-    by false = e
+viable_active i e = grind arith
 
 -- what is over and no success is not active
-no_success : (o : Outcome) (open_verdict : Bool) → (o ≡ outcome.Success → ⊥) → (is_success_outcome o && open_verdict) ≡ true → ⊥
-no_success outcome.Success open_verdict other e = other refl
-no_success outcome.Init open_verdict other e = cc
-no_success outcome.CouldntSend open_verdict other e = cc
-no_success outcome.ClientError open_verdict other e = cc
-no_success outcome.NoReply open_verdict other e = cc
-no_success outcome.DidntNeed open_verdict other e = cc
-no_success outcome.ValidateError open_verdict other e = cc
-no_success outcome.ClientDetached open_verdict other e = cc
+ended_not_active : (i : Instance) (o : Outcome) → (o ≡ outcome.Success → ⊥) → is_active (record i { server_state = server.Over; outcome = o }) ≡ true → ⊥
+ended_not_active i o other e = grind arith
 
 -- what is refused is active only in progress
-refused_active : (a b c : Bool) → (a || (b && false && false)) ≡ true → (a || c) ≡ true
-refused_active true b c e = refl
-refused_active false true c e = cc
-refused_active false false c e = cc
+refused_active : (i : Instance) → is_active (refused i) ≡ true → is_active i ≡ true
+refused_active i e = grind arith
 
 -- it stays so by each rule
 alike_stays : (classes : List HostClass) (class : ℕ) → StaysWithInstances (IsAlike classes class)
@@ -74,8 +63,8 @@ alike_stays classes class = record {
   judged = λ i v viable h e. h (viable_active i viable);
   filed = λ i f h. h;
   deleted = λ i h. h;
-  ended = λ i o other h e. absurd (no_success o (is_open_verdict i.validate_state) other e);
-  refused = λ i h e. h (refused_active (is_in_progress i) (is_over i) (is_viable i) e);
+  ended = λ i o other h e. absurd (ended_not_active i o other e);
+  refused = λ i h e. h (refused_active i e);
 }
 
 -- ---- all of them
@@ -96,58 +85,35 @@ idle_is_one_class classes w idle = none_alike classes w.class w.instances idle
 
 -- ---- the class of a workunit
 
-class_either : (b : Bool) (v u : Workunit) (class : ℕ) → v.class ≡ class → u.class ≡ class → (cond b v u).class ≡ class
-class_either true v u class one two = one
-class_either false v u class one two = two
-
 class_transitioned : (w : Workunit) (now : ℕ) → (transitioned w now).class ≡ cond (has_active (transitioned w now)) w.class 0
 unfolding transitioned
 class_transitioned w now =
     let e = extended (timed w now) in
     let s = settled e in
+    let same : s.class ≡ w.class = cond_has (λ v. v.class ≡ w.class) (is_clear e.error_mask) e (ended e) refl refl in
     ap (λ class. cond (has_active (readied s)) class 0)
-    (class_either (is_done_assimilate s.assimilate) (with_files_readied s) s w.class (class_either (is_clear e.error_mask) e (ended e) w.class refl refl) (class_either (is_clear e.error_mask) e (ended e) w.class refl refl))
+    (cond_has (λ v. v.class ≡ w.class) (is_done_assimilate s.assimilate) (with_files_readied s) s same same)
 
 class_concluded : (w : Workunit) → (concluded w).class ≡ w.class
-unfolding concluded
-class_concluded w = class_either (is_to_validate w) (validated_by w w.canonical) w w.class (by w.canonical) refl
-  where
-    by_decision : (o : Option ℕ) → (decided w o).class ≡ w.class
-    by_decision None = class_either (nat_lt w.params.max_success_results (length (viable w))) _ _ w.class refl refl
-    by_decision (Some n) = refl
-
-    by : (o : Option ℕ) → (validated_by w o).class ≡ w.class
-    by None = by_decision (consensus w)
-    by (Some c) = refl
+class_concluded w =
+    concluded_has (λ v gs. v.class ≡ w.class) w refl (λ c looked some. refl) (λ c looked some. refl) (λ n looked none agreed. refl)
+    (λ looked none. cond_has (λ (v : Workunit). v.class ≡ w.class) (nat_lt w.params.max_success_results (length (viable w))) _ _ refl refl)
 
 class_validated : (w : Workunit) → (validated w).class ≡ w.class
 unfolding validated
-class_validated w = class_concluded (checked w) ∙ class_either (is_to_validate w) (with_refused _ w) w w.class refl refl
+class_validated w = class_concluded (checked w) ∙ cond_has (λ v. v.class ≡ w.class) (is_to_validate w) (with_refused (is_none w.canonical) w) w refl refl
 
 -- ---- the hosts of a workunit that is decided
 
 -- where a result is chosen, each instance has the host that it had
-hosts_decided : (v : Workunit) (o : Option ℕ) (n : ℕ) → v.canonical ≡ None → (decided v o).canonical ≡ Some n
-    → instance_host (decided v o).instances n ≡ instance_host v.instances n
-hosts_decided v None n undecided is = let same = left_open_keeps v in cc
-hosts_decided v (Some m) n undecided is =
-    let output = output_at v.instances m in
-    same_host (λ i. is_viable i && bytes_eq i.output output) v.instances (map (judged_by output) v.instances)
-    (all_become (λ i. is_viable i && bytes_eq i.output output) (judged_by output) (becomes_judged_by output) v.instances) n
-
 hosts_concluded : (v : Workunit) (n : ℕ) → v.canonical ≡ None → (concluded v).canonical ≡ Some n
     → instance_host (concluded v).instances n ≡ instance_host v.instances n
-unfolding concluded
-hosts_concluded v n undecided = by (is_to_validate v)
-  where
-    by_decision : (o : Option ℕ) → o ≡ None → (validated_by v o).canonical ≡ Some n → instance_host (validated_by v o).instances n ≡ instance_host v.instances n
-    by_decision None none is = hosts_decided v (consensus v) n undecided is
-    by_decision (Some m) some is = cc
-
-    by : (b : Bool) → (cond b (validated_by v v.canonical) v).canonical ≡ Some n
-        → instance_host (cond b (validated_by v v.canonical) v).instances n ≡ instance_host v.instances n
-    by true is = by_decision v.canonical undecided is
-    by false is = refl
+hosts_concluded v n undecided =
+    concluded_has (λ u gs. u.canonical ≡ Some n → instance_host u.instances n ≡ instance_host v.instances n) v (λ is. refl)
+    (λ c looked some is. cc) (λ c looked some is. cc)
+    (λ m looked none agreed is. same_host (λ i. is_viable i && bytes_eq i.output (output_at v.instances m)) v.instances _
+    (all_become _ (judged_by (output_at v.instances m)) (becomes_judged_by (output_at v.instances m)) v.instances) n)
+    (λ looked none is. let same = left_open_keeps v in cc)
 
 -- ---- the rules
 
@@ -157,32 +123,13 @@ module _ (classes : List HostClass) (w : Workunit) (alike : IsOneClass classes w
   kept v keeps same = subst (λ class. All (IsAlike classes class) v.instances) (sym same) (keeps.each alike)
 
   one_transitioned : (now : ℕ) → IsOneClass classes (transitioned w now)
-  one_transitioned now = by (has_active v) refl
+  one_transitioned now = by (has_active (transitioned w now)) refl
     where
-      v : Workunit
-      v = transitioned w now
-
       by : (b : Bool) → has_active (transitioned w now) ≡ b → IsOneClass classes (transitioned w now)
       by true active =
           kept (transitioned w now) (keeps_transitioned (IsAlike classes w.class) (alike_stays classes w.class) w now)
           (class_transitioned w now ∙ ap (λ b. cond b w.class 0) active)
       by false idle = none_alike classes (transitioned w now).class (transitioned w now).instances idle
-
-  one_assimilated : (now : ℕ) → IsOneClass classes (assimilated w now)
-  unfolding assimilated
-  one_assimilated now = by (is_ready_assimilate w.assimilate)
-    where
-      by : (b : Bool) → IsOneClass classes (cond b (record w { assimilate = assimilate.Done; done_at = Some now }) w)
-      by true = alike
-      by false = alike
-
-  one_emptied : IsOneClass classes (emptied w)
-  unfolding emptied
-  one_emptied = kept (emptied w) (keeps_emptied (IsAlike classes w.class) (alike_stays classes w.class) w) refl
-
-  one_cancelled : IsOneClass classes (cancelled w)
-  unfolding cancelled
-  one_cancelled = kept (cancelled w) (keeps_cancelled (IsAlike classes w.class) (alike_stays classes w.class) w) refl
 
   -- where the workunit may be bound to this class, its active instances are of it
   before : (class : ℕ) → (has_active w ≡ true → w.class ≡ class) → All (IsAlike classes class) w.instances
@@ -196,9 +143,6 @@ module _ (classes : List HostClass) (w : Workunit) (alike : IsOneClass classes w
       → IsOneClass classes (sent_in w n host (class_of classes host) moment)
   one_sent n host moment applied = by (slice_get w.instances n) applied
     where
-      class : ℕ
-      class = class_of classes host
-
       by : (o : Option Instance) → option_map_or (send_verdict_of w host (class_of classes host)) o send.Unknown ≡ send.Applied
           → IsOneClass classes (option_map_or (sent_as w n host (class_of classes host) moment) o w)
       by None e = alike
@@ -216,8 +160,7 @@ module _ (classes : List HostClass) (w : Workunit) (alike : IsOneClass classes w
   if_success : (host : List ℕ) (class moment : ℕ) (said : Status) (output : List ℕ) (i : Instance) → i.host ≡ Some host → (said ≡ status.Success → class_of classes host ≡ class)
       → IsAlike classes class (reported_as moment said output i)
   if_success host class moment status.Success output i hosted same = λ active. subst (λ o. IfSome o (λ h. class_of classes h ≡ class)) (sym hosted) (same refl)
-  if_success host class moment status.ClientError output i hosted same = λ active. absurd (cc)
-  if_success host class moment status.Detached output i hosted same = λ active. absurd (cc)
+  if_success host class moment said output i hosted same = λ active. absurd (cc)
 
   -- the class of the host of an active instance
   class_at : (class : ℕ) (host : List ℕ) (j : Instance) → IsAlike classes class j → is_active j ≡ true → j.host ≡ Some host → class_of classes host ≡ class
@@ -225,18 +168,14 @@ module _ (classes : List HostClass) (w : Workunit) (alike : IsOneClass classes w
 
   one_reported : (n : ℕ) (host : List ℕ) (moment : ℕ) (said : Status) (output : List ℕ) → report_verdict_in w n host moment ≡ report.Applied
       → IsOneClass classes (reported_in w n moment said output) ↔ (said ≡ status.Success → class_of classes host ≡ w.class)
-  one_reported n host moment said output applied = by (slice_get w.instances n) refl applied
-    where
-      by : (o : Option Instance) → slice_get w.instances n ≡ o → option_map_or (report_verdict_of host moment) o report.Unknown ≡ report.Applied
-          → IsOneClass classes (option_map_or (λ instance. with_instance_set w n (reported_as moment said output instance)) o w) ↔ (said ≡ status.Success → class_of classes host ≡ w.class)
-      by None here e = absurd (cc)
-      by (Some i) here e =
-          let j = reported_as moment said output i in
-          let hosted = its n host moment i here applied in (
-            λ all is. class_at w.class host j (holds_at (IsAlike classes w.class) (slice_set w.instances n j) n j all (set_here w.instances n i j here))
-                (ap (λ s. is_success_outcome (outcome_of s) && true) is) hosted,
-            λ same. All-set (IsAlike classes w.class) w.instances n j (if_success host w.class moment said output i hosted same) alike,
-          )
+  one_reported n host moment said output applied =
+      reported_has (λ v. IsOneClass classes v ↔ (said ≡ status.Success → class_of classes host ≡ w.class)) w n host moment said output applied (λ i here e.
+      let j = reported_as moment said output i in
+      let hosted = its n host moment i here applied in (
+        λ all is. class_at w.class host j (holds_at (IsAlike classes w.class) (slice_set w.instances n j) n j all (set_here w.instances n i j here))
+            (ap (λ s. is_success_outcome (outcome_of s) && true) is) hosted,
+        λ same. All-set (IsAlike classes w.class) w.instances n j (if_success host w.class moment said output i hosted same) alike,
+      ))
 
   -- in progress it is active
   one_in_time : (n : ℕ) (host : List ℕ) (moment : ℕ) → report_verdict_in w n host moment ≡ report.Applied
@@ -249,12 +188,13 @@ module _ (classes : List HostClass) (w : Workunit) (alike : IsOneClass classes w
           class_at w.class host i (holds_at (IsAlike classes w.class) w.instances n i alike here) (ap (λ b. b || is_viable i) out) (its n host moment i here applied)
 
   pub rules_keep_one_class : RulesKeepOneClass classes w
+  unfolding assimilated emptied cancelled
   rules_keep_one_class = record {
     transitioned = one_transitioned;
     validated = kept (validated w) (keeps_validated (IsAlike classes w.class) (alike_stays classes w.class) w) (class_validated w);
-    assimilated = one_assimilated;
-    emptied = one_emptied;
-    cancelled = one_cancelled;
+    assimilated = λ now. cond_has (IsOneClass classes) (is_ready_assimilate w.assimilate) (record w { assimilate = assimilate.Done; done_at = Some now }) w alike alike;
+    emptied = kept (emptied w) (keeps_emptied (IsAlike classes w.class) (alike_stays classes w.class) w) refl;
+    cancelled = kept (cancelled w) (keeps_cancelled (IsAlike classes w.class) (alike_stays classes w.class) w) refl;
     sent = one_sent;
     reported = one_reported;
     in_time = one_in_time;
@@ -275,24 +215,10 @@ module _ (classes : List HostClass) (w : Workunit) (alike : IsOneClass classes w
 
   -- all that is granted
   credited_alike : (v : Workunit) → All (IsAlike classes w.class) v.instances → All IsOfClass (credited v)
-  unfolding credited
-  credited_alike v all = All-from_recursion IsOfClass (credited v) (by_case (is_to_validate v) (by_canonical v.canonical))
-    where
-      decide : (o : Option ℕ) → AllByRecursion IsOfClass (grants_decided v o)
-      decide None = tt
-      decide (Some n) = granted_alike v all (output_at v.instances n)
-
-      after : (b : Bool) (output : List ℕ) → AllByRecursion IsOfClass (cond b [] (grants_by v output))
-      after true output = tt
-      after false output = granted_alike v all output
-
-      by_canonical : (o : Option ℕ) → AllByRecursion IsOfClass (granted_by v o)
-      by_canonical None = decide (consensus v)
-      by_canonical (Some c) = after (is_deleted_at v.instances c) (output_at v.instances c)
-
-      by_case : (b : Bool) → AllByRecursion IsOfClass (granted_by v v.canonical) → AllByRecursion IsOfClass (cond b (granted_by v v.canonical) [])
-      by_case true all = all
-      by_case false all = tt
+  credited_alike v all = All-from_recursion IsOfClass (credited v)
+      (concluded_has (λ u gs. AllByRecursion IsOfClass gs) v tt (λ c looked some. tt)
+      (λ c looked some. granted_alike v all (output_at v.instances c)) (λ n looked none agreed. granted_alike v all (output_at v.instances n))
+      (λ looked none. tt))
 
   -- what is left without empty outputs
   left_alike : All (IsAlike classes w.class) (checked w).instances
@@ -338,35 +264,23 @@ all_unset P (x ∷ xs) (suc n) i j here it all =
 
 -- what may be reported is no success
 awaited_no_success : (host : List ℕ) (moment : ℕ) (i : Instance) → report_verdict_of host moment i ≡ report.Applied → is_success i ≡ true → ⊥
-awaited_no_success host moment i e success =
-    let over = over_is i.server_state (and_left (is_over_state i.server_state) (is_success_outcome i.outcome) success) in
-    let none : is_success_outcome i.outcome ≡ false = ap is_success_outcome ((may_be_reported host moment i e).awaited over) in
-    let both : true ≡ false = sym (and_right (is_over_state i.server_state) (is_success_outcome i.outcome) success) ∙ none in
-    cc
+awaited_no_success host moment i e success = let none = was_no_success host moment i e in cc
 
 module _ (classes : List HostClass) (w : Workunit) (n : ℕ) (host : List ℕ) (moment : ℕ) (said : Status) (output : List ℕ)
     (applied : report_verdict_in w n host moment ≡ report.Applied) (after : ViablyAlike classes (reported_in w n moment said output)) where
   -- where the viable successes are alike after a report they were before
   pub alike_before : ViablyAlike classes w
-  alike_before = by (slice_get w.instances n) refl applied after
-    where
-      by : (o : Option Instance) → slice_get w.instances n ≡ o → option_map_or (report_verdict_of host moment) o report.Unknown ≡ report.Applied
-          → ViablyAlike classes (option_map_or (λ instance. with_instance_set w n (reported_as moment said output instance)) o w) → ViablyAlike classes w
-      by None here e all = all
-      by (Some i) here e all =
-          all_unset (IsViablyAlike classes w.class) w.instances n i (reported_as moment said output i) here
-          (λ viable. absurd (awaited_no_success host moment i e (and_left (is_success i) (is_open_verdict i.validate_state) viable))) all
+  alike_before =
+      reported_has (λ v. ViablyAlike classes v → ViablyAlike classes w) w n host moment said output applied (λ i here e all.
+      all_unset (IsViablyAlike classes w.class) w.instances n i (reported_as moment said output i) here
+      (λ viable. absurd (awaited_no_success host moment i e (and_left (is_success i) (is_open_verdict i.validate_state) viable))) all) after
 
   -- and a success that was told is of a host of the class
   pub told_of_class : said ≡ status.Success → class_of classes host ≡ w.class
-  told_of_class is = by (slice_get w.instances n) refl applied after
-    where
-      by : (o : Option Instance) → slice_get w.instances n ≡ o → option_map_or (report_verdict_of host moment) o report.Unknown ≡ report.Applied
-          → ViablyAlike classes (option_map_or (λ instance. with_instance_set w n (reported_as moment said output instance)) o w) → class_of classes host ≡ w.class
-      by None here e all = absurd (cc)
-      by (Some i) here e all =
-          let j = reported_as moment said output i in
-          let viable = ap (λ s. is_success_outcome (outcome_of s) && true) is in
-          let its = (may_be_reported host moment i e).its in
-          subst (λ o. IfSome o (λ h. class_of classes h ≡ w.class)) its
-          (holds_at (IsViablyAlike classes w.class) (slice_set w.instances n j) n j all (set_here w.instances n i j here) viable)
+  told_of_class is =
+      reported_has (λ v. ViablyAlike classes v → class_of classes host ≡ w.class) w n host moment said output applied (λ i here e all.
+      let j = reported_as moment said output i in
+      let viable = ap (λ s. is_success_outcome (outcome_of s) && true) is in
+      let its = (may_be_reported host moment i e).its in
+      subst (λ o. IfSome o (λ h. class_of classes h ≡ w.class)) its
+      (holds_at (IsViablyAlike classes w.class) (slice_set w.instances n j) n j all (set_here w.instances n i j here) viable)) after

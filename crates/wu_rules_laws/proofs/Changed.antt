@@ -1,28 +1,33 @@
 -- Tests and counts over lists whose elements were changed, each by its place.
-use Rattle.std.proofs.Common.{◌≡◌, ℕ, zero, suc, ◌+◌, Bool, true, false, cond, ◌&&◌, ◌||◌, List, [], ◌∷◌, map, length, filter, replicate, refl, ap, ◌∙◌}
+use Rattle.std.proofs.Common.{◌≡◌, ℕ, zero, suc, ◌+◌, Bool, true, false, cond, ◌&&◌, ◌||◌, List, [], ◌∷◌, map, length, filter, replicate, refl, ap, ◌∙◌, ◌≢◌, arith}
 use Rattle.std.specs.List.{list_any, list_all, enumerate_from}
 use Rattle.wu_rules.proofs.Lists.{count_step}
 
 pub or_left : (a b : Bool) → (a || b) ≡ false → a ≡ false
-or_left true b e = cc
-or_left false b e = refl
+or_left a b e = grind arith
 
 pub or_right : (a b : Bool) → (a || b) ≡ false → b ≡ false
-or_right true b e = cc
-or_right false b e = e
+or_right a b e = grind arith
 
 pub or_false : (a : Bool) → (a || false) ≡ a
-or_false true = refl
-or_false false = refl
+or_false a = grind arith
 
 pub or_from : (a b : Bool) → a ≡ false → b ≡ false → (a || b) ≡ false
 or_from a b e f = cc
 
 pub and_false : (a b : Bool) → b ≡ false → (a && b) ≡ false
-and_false true b e = e
-and_false false b e = refl
+and_false a b e = grind arith
+
+-- where a change needs a test, what changes passes it
+pub only_where : {A : Type 0} (b : Bool) (x y : A) → (b ≡ false → x ≡ y) → x ≢ y → b ≡ true
+only_where true x y same changed = refl
+only_where false x y same changed = absurd (changed (same refl))
 
 -- what both branches have, a choice has
+pub cond_has : {A : Type 0} (P : A → Type 0) (b : Bool) (x y : A) → P x → P y → P (cond b x y)
+cond_has P true x y h k = h
+cond_has P false x y h k = k
+
 pub cond_keeps : {A X : Type 0} (g : A → X) (b : Bool) (r w : A) → g r ≡ g w → g (cond b r w) ≡ g w
 cond_keeps g true r w e = e
 cond_keeps g false r w e = refl

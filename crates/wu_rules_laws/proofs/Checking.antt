@@ -1,13 +1,16 @@
 -- What is left of a workunit once what is no result is refused.
-use Rattle.std.proofs.Common.{◌≡◌, ℕ, Bool, true, false, cond, map, slice_get, Some, is_none, refl, sym, ap, ◌∙◌}
+use Rattle.std.proofs.Common.{◌≡◌, ℕ, Bool, true, false, cond, map, slice_get, Some, is_none, refl, sym, ap, ◌∙◌, List, [], Option, None}
 use Rattle.std.specs.Option.{option_map}
 use Rattle.std.proofs.lemmas.Option.{slice_get-map}
+use Rattle.wu_core.specs.declared.workunit.Grant.{Grant}
 use Rattle.wu_core.specs.declared.workunit.Instance.{Instance}
 use Rattle.wu_core.specs.declared.workunit.Workunit.{Workunit}
-use Rattle.wu_rules.specs.Validation.{checked, concluded, credited, grants, is_no_result, is_to_validate, refused, refused_where, validated, validated_by, with_refused}
+use Rattle.wu_rules.specs.Counts.{consensus}
+use Rattle.wu_rules.specs.Validation.{agreed_on, checked, concluded, credited, decided, granted_by, grants, grants_by, grants_decided, is_deleted_at}
+use Rattle.wu_rules.specs.Validation.{is_no_result, is_to_validate, judged_late_by, left_open, output_at, refused, refused_where, validated, validated_by, with_refused}
 use Rattle.wu_rules.proofs.Lists.{map-same}
-use Rattle.wu_rules_laws.proofs.Becoming.{AllBecome, Becomes, all_become, all_stay, becomes_either, becomes_refused_where, none_made, stays}
-use Rattle.wu_rules_laws.proofs.Changed.{cond_keeps}
+use Rattle.wu_rules_laws.proofs.Becoming.{Becomes, becomes_refused_where, stays}
+use Rattle.wu_rules_laws.proofs.Changed.{cond_has, cond_keeps}
 
 -- a validation refuses, and then concludes
 pub validated_is : (w : Workunit) → validated w ≡ concluded (checked w)
@@ -53,7 +56,7 @@ checked_in w i = cond (is_to_validate w) (refused_where (is_none w.canonical) i)
 
 pub becomes_checked : (w : Workunit) (i : Instance) → Becomes false i (checked_in w i)
 becomes_checked w i =
-    becomes_either false (is_to_validate w) i (refused_where (is_none w.canonical) i) i (λ e. becomes_refused_where (is_none w.canonical) i) (λ e. stays i)
+    cond_has (Becomes false i) (is_to_validate w) (refused_where (is_none w.canonical) i) i (becomes_refused_where (is_none w.canonical) i) (stays i)
 
 pub instances_checked : (w : Workunit) → (checked w).instances ≡ map (checked_in w) w.instances
 instances_checked w = by_case (is_to_validate w)
@@ -76,17 +79,37 @@ pub refused_in : (w : Workunit) (i : Instance) → is_to_validate w ≡ true →
 refused_in w i looked e = ap (λ b. cond b (refused_where (is_none w.canonical) i) i) looked ∙ ap (λ b. cond b (refused i) i) e
 
 pub kept_in : (w : Workunit) (i : Instance) → is_no_result (is_none w.canonical) i ≡ false → checked_in w i ≡ i
-kept_in w i e = by_case (is_to_validate w)
-  where
-    by_case : (b : Bool) → cond b (refused_where (is_none w.canonical) i) i ≡ i
-    by_case true = ap (λ b. cond b (refused i) i) e
-    by_case false = refl
+kept_in w i e = cond_has (λ j. j ≡ i) (is_to_validate w) (refused_where (is_none w.canonical) i) i (ap (λ b. cond b (refused i) i) e) refl
 
--- ---- all of them
+-- ---- what is concluded
 
-pub all_become_checked : (w : Workunit) → AllBecome none_made w.instances (checked w).instances
-all_become_checked w = by_case (is_to_validate w)
+-- the workunit with new successes judged after the decision by this one's output, or by that it is gone
+abbrev pub late : Workunit → Bool → ℕ → Workunit
+late w gone c = record w { instances = map (judged_late_by gone (output_at w.instances c)) w.instances }
+
+-- this holds of what is concluded and credited where it holds of each image with its grants
+pub concluded_has : (P : Workunit → List Grant → Type 0) (w : Workunit) → P w []
+    → ((c : ℕ) → is_to_validate w ≡ true → w.canonical ≡ Some c → P (late w true c) [])
+    → ((c : ℕ) → is_to_validate w ≡ true → w.canonical ≡ Some c → P (late w false c) (grants_by w (output_at w.instances c)))
+    → ((n : ℕ) → is_to_validate w ≡ true → w.canonical ≡ None → consensus w ≡ Some n
+    → P (agreed_on w n) (grants_by w (output_at w.instances n)))
+    → (is_to_validate w ≡ true → w.canonical ≡ None → P (left_open w) []) → P (concluded w) (credited w)
+unfolding concluded credited
+concluded_has P w same too_late judged chosen left = by (is_to_validate w) refl
   where
-    by_case : (b : Bool) → AllBecome none_made w.instances (cond b (with_refused (is_none w.canonical) w) w).instances
-    by_case true = all_become none_made (refused_where (is_none w.canonical)) (becomes_refused_where (is_none w.canonical)) w.instances
-    by_case false = all_stay w.instances
+    by_output : (gone : Bool) (c : ℕ) → is_to_validate w ≡ true → w.canonical ≡ Some c
+        → P (late w gone c) (cond gone [] (grants_by w (output_at w.instances c)))
+    by_output true = too_late
+    by_output false = judged
+
+    by_consensus : (o : Option ℕ) → consensus w ≡ o → is_to_validate w ≡ true → w.canonical ≡ None → P (decided w o) (grants_decided w o)
+    by_consensus None e looked none = left looked none
+    by_consensus (Some n) e looked none = chosen n looked none e
+
+    by_canonical : (o : Option ℕ) → is_to_validate w ≡ true → w.canonical ≡ o → P (validated_by w o) (granted_by w o)
+    by_canonical None looked none = by_consensus (consensus w) refl looked none
+    by_canonical (Some c) looked some = by_output (is_deleted_at w.instances c) c looked some
+
+    by : (b : Bool) → is_to_validate w ≡ b → P (cond b (validated_by w w.canonical) w) (cond b (granted_by w w.canonical) [])
+    by true looked = by_canonical w.canonical looked refl
+    by false e = same

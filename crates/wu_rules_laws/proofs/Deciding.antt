@@ -5,9 +5,10 @@ use Rattle.wu_core.specs.declared.workunit.Instance.{Instance}
 use Rattle.wu_core.specs.declared.workunit.Workunit.{Workunit}
 use Rattle.wu_core.specs.declared.states.ValidateState.TheVariants as validate
 use Rattle.wu_rules.specs.Counts.{consensus, viable}
-use Rattle.wu_rules.specs.Instances.{closed, is_new, is_viable}
-use Rattle.wu_rules.specs.Validation.{agreed_on, checked, concluded, decided, doubted, doubted_or_closed, is_deleted_at, is_to_validate, judged_after, judged_by, judged_late_by, left_open, output_at, raised_target, validated, validated_by, verdict}
+use Rattle.wu_rules.specs.Instances.{closed, is_viable}
+use Rattle.wu_rules.specs.Validation.{agreed_on, checked, concluded, decided, doubted, doubted_or_closed, is_deleted_at, is_to_validate, judged_after, judged_by, judged_late_by, left_open, output_at, validated, validated_by, verdict}
 use Rattle.wu_rules_laws.specs.Laws.{DecidesBy, verdict_at}
+use Rattle.wu_rules_laws.proofs.Changed.{cond_has}
 use Rattle.wu_rules_laws.proofs.Checking.{checked_canonical, validated_is}
 use Rattle.wu_rules_laws.proofs.Choosing.{left_open_keeps}
 
@@ -44,28 +45,15 @@ judged_at w c n i gone e some there here =
     ∙ (ap (λ zs. option_map (λ (j : Instance). j.validate_state) (slice_get zs n)) (sym late)
     ∙ ap (λ o. option_map (λ (j : Instance). j.validate_state) o) (slice_get-map (judged_late_by gone output) w.instances n ∙ ap (λ o. option_map (judged_late_by gone output) o) here))
 
-judges_late_right : (w : Workunit) (c n : ℕ) (i : Instance) → is_to_validate w ≡ true → w.canonical ≡ Some c → is_deleted_at w.instances c ≡ false
-    → slice_get w.instances n ≡ Some i → is_new i ≡ true
-    → verdict_at (concluded w) n ≡ Some (verdict (bytes_eq i.output (output_at w.instances c)))
-judges_late_right w c n i e some there here new =
-    judged_at w c n i false e some there here
-    ∙ ap (λ b. Some (cond b (record i { validate_state = verdict (bytes_eq i.output (output_at w.instances c)) }) i).validate_state) new
-
-judges_too_late : (w : Workunit) (c n : ℕ) (i : Instance) → is_to_validate w ≡ true → w.canonical ≡ Some c → is_deleted_at w.instances c ≡ true
-    → slice_get w.instances n ≡ Some i → is_new i ≡ true → verdict_at (concluded w) n ≡ Some validate.TooLate
-judges_too_late w c n i e some gone here new =
-    judged_at w c n i true e some gone here ∙ ap (λ b. Some (cond b (record i { validate_state = validate.TooLate }) i).validate_state) new
-
 -- what is left open is doubted
 doubts : (w : Workunit) (n : ℕ) (i : Instance) → slice_get w.instances n ≡ Some i → is_viable i ≡ true → verdict_at (left_open w) n ≡ Some validate.Inconclusive
-doubts w n i here viable_i = by_limit (nat_lt w.params.max_success_results (length (viable w)))
+doubts w n i here viable_i =
+    cond_has (λ (v : Workunit). verdict_at v n ≡ Some validate.Inconclusive) (nat_lt w.params.max_success_results (length (viable w))) _ _
+    (at doubted_or_closed ∙ ap (λ b. Some (cond b (record i { validate_state = validate.Inconclusive }) (closed i)).validate_state) viable_i)
+    (at doubted ∙ ap (λ b. Some (cond b (record i { validate_state = validate.Inconclusive }) i).validate_state) viable_i)
   where
     at : (f : Instance → Instance) → option_map (λ (j : Instance). j.validate_state) (slice_get (map f w.instances) n) ≡ Some (f i).validate_state
     at f = ap (λ o. option_map (λ (j : Instance). j.validate_state) o) (slice_get-map f w.instances n ∙ ap (λ o. option_map f o) here)
-
-    by_limit : (b : Bool) → verdict_at (cond b (record w { error_mask = record w.error_mask { too_many_success_results = true }; instances = map doubted_or_closed w.instances }) (record w { params = record w.params { target_nresults = raised_target w.params (length (viable w)) }; instances = map doubted w.instances })) n ≡ Some validate.Inconclusive
-    by_limit true = at doubted_or_closed ∙ ap (λ b. Some (cond b (record i { validate_state = validate.Inconclusive }) (closed i)).validate_state) viable_i
-    by_limit false = at doubted ∙ ap (λ b. Some (cond b (record i { validate_state = validate.Inconclusive }) i).validate_state) viable_i
 
 leaves_doubted : (w : Workunit) (n : ℕ) (i : Instance) → is_to_validate w ≡ true → w.canonical ≡ None → consensus w ≡ None
     → slice_get w.instances n ≡ Some i → is_viable i ≡ true → verdict_at (concluded w) n ≡ Some validate.Inconclusive
@@ -79,8 +67,10 @@ pub decides_by : (w : Workunit) → DecidesBy w (checked w)
 decides_by w = record {
   chosen = λ e none. ap (λ (v : Workunit). v.canonical) (validated_is w) ∙ decides (checked w) e (checked_canonical w ∙ none);
   judged = λ c n i e none agreed here viable. same n ∙ judges_by_chosen (checked w) c n i e (checked_canonical w ∙ none) agreed here viable;
-  judged_late = λ c n i e some there here new. same n ∙ judges_late_right (checked w) c n i e (checked_canonical w ∙ some) there here new;
-  too_late = λ c n i e some gone here new. same n ∙ judges_too_late (checked w) c n i e (checked_canonical w ∙ some) gone here new;
+  judged_late = λ c n i e some there here new. same n ∙ (judged_at (checked w) c n i false e (checked_canonical w ∙ some) there here
+      ∙ ap (λ b. Some (cond b (record i { validate_state = verdict (bytes_eq i.output (output_at (checked w).instances c)) }) i).validate_state) new);
+  too_late = λ c n i e some gone here new. same n ∙ (judged_at (checked w) c n i true e (checked_canonical w ∙ some) gone here
+      ∙ ap (λ b. Some (cond b (record i { validate_state = validate.TooLate }) i).validate_state) new);
   doubted = λ n i e none unagreed here viable. same n ∙ leaves_doubted (checked w) n i e (checked_canonical w ∙ none) unagreed here viable;
 }
   where

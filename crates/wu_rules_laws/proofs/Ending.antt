@@ -1,5 +1,5 @@
 -- What becomes of each instance by a transition, and what is left of it under a mask.
-use Rattle.std.proofs.Common.{◌≡◌, ◌≢◌, ℕ, ◌+◌, zero-add, Bool, true, false, not, cond, ◌&&◌, ◌||◌, replicate, slice_get, Some, option_map, refl, sym, ap, subst, ◌∙◌, inl, inr}
+use Rattle.std.proofs.Common.{◌≡◌, ◌≢◌, ℕ, ◌+◌, zero-add, Bool, true, false, not, cond, ◌&&◌, ◌||◌, replicate, slice_get, Some, option_map, sym, ap, subst, ◌∙◌, arith}
 use Rattle.std.proofs.lemmas.Option.{slice_get-map}
 use Rattle.std.specs.List.{list_all, list_any}
 use Rattle.std.specs.Option.{IsSomeAnd}
@@ -9,14 +9,9 @@ use Rattle.wu_core.specs.declared.workunit.Workunit.{Workunit}
 use Rattle.wu_core.specs.declared.states.Assimilate.{Assimilate}
 use Rattle.wu_core.specs.declared.states.Assimilate.TheVariants as assimilate
 use Rattle.wu_core.specs.declared.states.FileDelete.{FileDelete}
-use Rattle.wu_core.specs.declared.states.Outcome.TheVariants as outcome
-use Rattle.wu_core.specs.declared.states.ServerState.{ServerState}
-use Rattle.wu_core.specs.declared.states.ServerState.TheVariants as server
-use Rattle.wu_core.specs.declared.states.ValidateState.TheVariants as validate
-use Rattle.wu_rules.specs.Instances.{given_up, is_done_assimilate, is_in_progress, is_init_assimilate, is_open_verdict, is_over_state, is_overdue, is_success_outcome, is_unsent, is_unsent_state, is_viable, timed_out, without_reply}
+use Rattle.wu_rules.specs.Instances.{given_up, is_done_assimilate, is_init_assimilate, is_unsent, is_viable, timed_out}
 use Rattle.wu_rules.specs.Counts.{is_clear}
 use Rattle.wu_rules.specs.Transition.{added, ended, extended, is_finished, readied, settled, timed, transitioned, with_files_readied, with_output_readied}
-use Rattle.wu_rules.proofs.Timing.{not_over, not_unsent, and_left as left_of}
 use Rattle.wu_rules_laws.specs.Transitions.{Becomes, IsThrough}
 use Rattle.wu_rules_laws.proofs.Changed.{or_left, or_right}
 use Rattle.wu_rules_laws.proofs.GivingUp.{mask-transitioned}
@@ -26,113 +21,17 @@ use Rattle.wu_rules_laws.proofs.Settled.{settled-once, unsettled-readied}
 
 -- ---- one instance
 
--- what is overdue is neither unsent nor viable
-overdue_not_unsent : (now : ℕ) (i : Instance) → is_overdue now i ≡ true → is_unsent i ≡ false
-overdue_not_unsent now i e = not_unsent i.server_state (left_of (is_in_progress i) _ (sym e))
-
-overdue_not_viable : (now : ℕ) (i : Instance) → is_overdue now i ≡ true → is_viable i ≡ false
-overdue_not_viable now i e = let over = not_over i.server_state (left_of (is_in_progress i) _ (sym e)) in rw over refl
-
--- what is viable is not unsent
-viable_not_unsent : (i : Instance) → is_viable i ≡ true → is_unsent i ≡ false
-viable_not_unsent i e = by i.server_state (is_success_outcome i.outcome) (is_open_verdict i.validate_state) e
-  where
-    by : (s : ServerState) (b c : Bool) → (is_over_state s && b && c) ≡ true → is_unsent_state s ≡ false
-    by server.Over b c e = refl
-    by server.InProgress b c e = refl
-    by server.Inactive b c e = refl
-    by server.Unsent b c e = cc
-
-never : {A : Type 0} (b : Bool) → b ≡ true → b ≡ false → A
-never b e f = absurd (let both : true ≡ false = sym e ∙ f in cc)
-
-false_true : {A : Type 0} → false ≡ true → A
-false_true e = absurd (cc)
-
-true_false : {A : Type 0} → true ≡ false → A
-true_false e = absurd (cc)
-
 -- of a workunit that is not given up
 becomes_timed : (now : ℕ) (i : Instance) → Becomes now false i (timed_out now i)
-becomes_timed now i = by (is_overdue now i) refl
-  where
-    by : (b : Bool) → is_overdue now i ≡ b → Becomes now false i (cond b (without_reply i) i)
-    by true e = record {
-      late = λ is. (refl, refl);
-      closed = λ is given_up. false_true given_up;
-      no_other_end = λ off is. never (is_overdue now i) e off;
-      unchecked = λ is given_up. false_true given_up;
-      no_other_verdict = λ is. refl;
-      sending = (refl, refl, refl);
-      report = (refl, refl);
-    }
-    by false e = record {
-      late = λ is. never (is_overdue now i) is e;
-      closed = λ is given_up. false_true given_up;
-      no_other_end = λ off is. (refl, refl);
-      unchecked = λ is given_up. false_true given_up;
-      no_other_verdict = λ is. refl;
-      sending = (refl, refl, refl);
-      report = (refl, refl);
-    }
+becomes_timed now i = grind arith
 
 -- of one that is
 becomes_ended : (now : ℕ) (i : Instance) → Becomes now true i (given_up (timed_out now i))
-becomes_ended now i = by (is_overdue now i) refl
-  where
-    by_state : (v u : Bool) → is_viable i ≡ v → is_unsent i ≡ u → is_overdue now i ≡ false
-        → Becomes now true i (cond v (record i { validate_state = validate.NoCheck }) (cond u (record i { server_state = server.Over; outcome = outcome.DidntNeed }) i))
-    by_state true u e f off = record {
-      late = λ is. never (is_overdue now i) is off;
-      closed = λ is given_up. never (is_unsent i) is (viable_not_unsent i e);
-      no_other_end = λ off is. (refl, refl);
-      unchecked = λ is given_up. refl;
-      no_other_verdict = λ is. elim is [ inl not_viable ↦ never (is_viable i) e not_viable | inr kept ↦ true_false kept ];
-      sending = (refl, refl, refl);
-      report = (refl, refl);
-    }
-    by_state false true e f off = record {
-      late = λ is. never (is_overdue now i) is off;
-      closed = λ is given_up. (refl, refl);
-      no_other_end = λ off is. elim is [ inl sent ↦ never (is_unsent i) f sent | inr kept ↦ true_false kept ];
-      unchecked = λ is given_up. never (is_viable i) is e;
-      no_other_verdict = λ is. refl;
-      sending = (refl, refl, refl);
-      report = (refl, refl);
-    }
-    by_state false false e f off = record {
-      late = λ is. never (is_overdue now i) is off;
-      closed = λ is given_up. never (is_unsent i) is f;
-      no_other_end = λ off is. (refl, refl);
-      unchecked = λ is given_up. never (is_viable i) is e;
-      no_other_verdict = λ is. refl;
-      sending = (refl, refl, refl);
-      report = (refl, refl);
-    }
-
-    by : (b : Bool) → is_overdue now i ≡ b → Becomes now true i (given_up (cond b (without_reply i) i))
-    by true e = record {
-      late = λ is. (refl, refl);
-      closed = λ is given_up. never (is_unsent i) is (overdue_not_unsent now i e);
-      no_other_end = λ off is. never (is_overdue now i) e off;
-      unchecked = λ is given_up. never (is_viable i) is (overdue_not_viable now i e);
-      no_other_verdict = λ is. refl;
-      sending = (refl, refl, refl);
-      report = (refl, refl);
-    }
-    by false e = by_state (is_viable i) (is_unsent i) refl refl e
+becomes_ended now i = grind arith
 
 -- where its output is named
 becomes_named : (now : ℕ) (g : Bool) (i j : Instance) (f : FileDelete) → Becomes now g i j → Becomes now g i (record j { file_delete = f })
-becomes_named now g i j f it = record {
-  late = it.late;
-  closed = it.closed;
-  no_other_end = it.no_other_end;
-  unchecked = it.unchecked;
-  no_other_verdict = it.no_other_verdict;
-  sending = it.sending;
-  report = it.report;
-}
+becomes_named now g i j f it = grind arith
 
 -- ---- at its place
 

@@ -1,5 +1,5 @@
 -- Rules that make nothing VALID, and what they leave of a workunit.
-use Rattle.std.proofs.Common.{◌≡◌, ◌≢◌, ℕ, zero, suc, ◌<◌, Bool, true, false, cond, ◌&&◌, ◌||◌, List, [], ◌∷◌, map, length, replicate, slice_get, slice_set, Option, Some, None, is_none, option_map, refl, sym, ap, subst, ◌∙◌, inl, inr, nat_lt, arith}
+use Rattle.std.proofs.Common.{◌≡◌, ◌≢◌, ℕ, zero, suc, ◌<◌, Bool, true, false, cond, ◌&&◌, ◌||◌, List, [], ◌∷◌, map, length, replicate, slice_get, slice_set, Option, Some, None, is_none, option_map, refl, sym, ap, subst, ◌∙◌, inl, inr, nat_lt, arith, is_some}
 use Rattle.std.proofs.lemmas.Bool.{cases_eq, ne_eqb}
 use Rattle.std.proofs.lemmas.List.Folds.{list_any-append}
 use Rattle.std.specs.List.{AllByRecursion, list_all, list_any}
@@ -17,7 +17,7 @@ use Rattle.wu_core.specs.declared.states.ValidateState.{ValidateState}
 use Rattle.wu_core.specs.declared.states.ValidateState.TheVariants as validate
 use Rattle.wu_rules.specs.Assimilation.{emptied, without_output}
 use Rattle.wu_rules.specs.Cancelling.{cancelled}
-use Rattle.wu_rules.specs.Counts.{has_active, is_clear, is_undecided, viable}
+use Rattle.wu_rules.specs.Counts.{is_clear, is_undecided, viable}
 use Rattle.wu_rules.specs.Instances.{closed, given_up, is_done_assimilate, is_open_verdict, is_ready_file, is_unsent, is_viable, readied_assimilate, timed_out}
 use Rattle.wu_rules.specs.Sending.{is_of}
 use Rattle.wu_rules.specs.Transition.{added, ended, extended, is_all_over, is_finished, may_output_go, outputs_readied, readied, settled, timed, transitioned, unbound, with_files_readied, with_output_readied}
@@ -26,11 +26,11 @@ use Rattle.wu_rules.proofs.Lists.{any-map}
 use Rattle.wu_rules.proofs.Timing.{not_unsent, same_timed}
 use Rattle.wu_rules.specs.Consistent.{IsPossible, KeepsVerdicts, instance_host, is_done, is_valid_at, is_valid_verdict}
 use Rattle.wu_rules_laws.proofs.Becoming.{AllBecome, all_become, all_become-more, all_become-placed, all_possible, all_stay, becomes_closed, becomes_doubted, becomes_doubted_or_closed, becomes_given_up, becomes_readied, becomes_refused_where, becomes_timed_out, becomes_without_output, final_at, none_made, readied_right, same_host, valid_at, verdict_at}
-use Rattle.wu_rules_laws.proofs.Changed.{and_false, any-placed, any_false-map, cond_keeps, or_from, or_left, or_right}
-use Rattle.wu_rules_laws.proofs.Hosted.{Apart, StayHosted, all_set, apart_same, at_other, at_set, stay_apart, stay_hosted}
+use Rattle.wu_rules_laws.proofs.Changed.{and_false, any-placed, any_false-map, cond_has, cond_keeps, or_from, or_left, or_right}
+use Rattle.wu_rules_laws.proofs.Hosted.{Apart, StayHosted, all_set, apart_same, at_other, at_set, none_hosted, stay_apart, stay_hosted}
 use Rattle.wu_rules_laws.proofs.Planned.{clear_of, extended-unflagged, no_errors_planned, no_total_planned, none_added}
 use Rattle.wu_rules_laws.proofs.Settled.{unsent_closed, unsent_judged}
-use Rattle.wu_rules_laws.proofs.Spent.{and_from, and_left, and_right}
+use Rattle.wu_rules_laws.proofs.Spent.{and_from, and_right}
 
 -- ---- instances
 
@@ -56,8 +56,7 @@ follows xs ys h = record {
 }
   where
     never : (o : Option Instance) → option_map_or none_made o false ≡ false
-    never None = refl
-    never (Some i) = refl
+    never o = grind arith
 
     same : (n : ℕ) → instance_host ys n ≡ instance_host xs n
     same = same_host none_made xs ys h
@@ -113,37 +112,37 @@ kept_then w v u first second n i here final = by_case (slice_get v.instances n) 
         let same : j.validate_state ≡ i.validate_state = cc in
         second n j e (subst (λ s. is_open_verdict s ≡ false) (sym same) final) ∙ ap Some same
 
+-- number, name, credit, canonical result, the two bits that are never set, and the moment of the assimilation
+abbrev pub Fixed : Type 0
+Fixed = ℕ × List ℕ × ℕ × Option ℕ × Bool × Bool × Option ℕ
+
+abbrev pub fixed : Workunit → Fixed
+fixed w = (w.number, w.name, w.params.credit, w.canonical, w.error_mask.couldnt_send_result, w.error_mask.no_canonical_result, w.done_at)
+
 -- nothing is made VALID, decided or DONE; a new bit of the mask comes only where the workunit is undecided
 pub record Quietly (old new : Workunit) : Type 0 where
-  pub number : new.number ≡ old.number
-  pub name : new.name ≡ old.name
-  pub credit : new.params.credit ≡ old.params.credit
-  pub canonical : new.canonical ≡ old.canonical
+  pub rest : fixed new ≡ fixed old
   pub done : is_done new ≡ is_done old
   pub deletable : old.file_delete ≢ file_delete.Error → new.file_delete ≢ file_delete.Error
-  pub sendable : new.error_mask.couldnt_send_result ≡ old.error_mask.couldnt_send_result
-  pub decidable : new.error_mask.no_canonical_result ≡ old.error_mask.no_canonical_result
   pub mask : is_undecided old ≡ false → new.error_mask ≡ old.error_mask
-  pub moment : new.done_at ≡ old.done_at
-  pub class : old.class ≡ 0 → new.class ≡ 0
+  pub class : list_any (λ i. is_some i.host) new.instances ≡ false → old.class ≡ 0 → new.class ≡ 0
   pub instances : Follows old.instances new.instances
+
+-- with this mask, target and class, and with these instances
+abbrev changed_to : Workunit → ErrorMask → (target class : ℕ) → List Instance → Workunit
+changed_to w mask target class ys =
+    record w { error_mask = mask; params = record w.params { target_nresults = target }; class = class; instances = ys }
+
+-- only these change
+pub quietly_to : (w : Workunit) (mask : ErrorMask) (target class : ℕ) (ys : List Instance) → fixed (changed_to w mask target class ys) ≡ fixed w
+    → (is_undecided w ≡ false → mask ≡ w.error_mask) → (list_any (λ i. is_some i.host) ys ≡ false → w.class ≡ 0 → class ≡ 0)
+    → Follows w.instances ys → Quietly w (changed_to w mask target class ys)
+quietly_to w mask target class ys rest same classless follow =
+    record { rest = rest; done = refl; deletable = λ right. right; mask = same; class = classless; instances = follow }
 
 -- only the instances change
 pub quietly_with : (w : Workunit) (ys : List Instance) → Follows w.instances ys → Quietly w (record w { instances = ys })
-quietly_with w ys follow = record {
-  number = refl;
-  name = refl;
-  credit = refl;
-  canonical = refl;
-  done = refl;
-  deletable = λ right. right;
-  sendable = refl;
-  decidable = refl;
-  mask = λ e. refl;
-  moment = refl;
-  class = λ e. e;
-  instances = follow;
-}
+quietly_with w ys follow = quietly_to w w.error_mask w.params.target_nresults w.class ys refl (λ e. refl) (λ none e. e) follow
 
 -- where none of them is made VALID
 pub quietly_same : (w : Workunit) (ys : List Instance) → AllBecome none_made w.instances ys → Quietly w (record w { instances = ys })
@@ -153,40 +152,25 @@ quietly_same w ys h = quietly_with w ys (follows w.instances ys h)
 pub quietly_unchanged : (w : Workunit) → Quietly w w
 quietly_unchanged w = quietly_same w w.instances (all_stay w.instances)
 
--- what both branches do, a choice does
-quietly_either : (b : Bool) (w v u : Workunit) → Quietly w v → Quietly w u → Quietly w (cond b v u)
-quietly_either true w v u h k = h
-quietly_either false w v u h k = k
-
 -- one rule after another
 quietly_then : (w v u : Workunit) → Quietly w v → Quietly v u → Quietly w u
 quietly_then w v u h k = record {
-  number = k.number ∙ h.number;
-  name = k.name ∙ h.name;
-  credit = k.credit ∙ h.credit;
-  canonical = k.canonical ∙ h.canonical;
+  rest = k.rest ∙ h.rest;
   done = k.done ∙ h.done;
   deletable = λ right. k.deletable (h.deletable right);
-  sendable = k.sendable ∙ h.sendable;
-  decidable = k.decidable ∙ h.decidable;
   mask = λ e. k.mask (still e) ∙ h.mask e;
-  moment = k.moment ∙ h.moment;
-  class = λ e. k.class (h.class e);
+  class = λ none e. k.class none (h.class (none_hosted v.instances u.instances k.instances.hosts none) e);
   instances = follows_then w.instances v.instances u.instances h.instances k.instances;
 }
   where
     still : is_undecided w ≡ false → is_undecided v ≡ false
     still e =
-        ap (λ c. is_none c && is_clear v.error_mask) h.canonical ∙ ap (λ m. is_none w.canonical && is_clear m) (h.mask e) ∙ e
+        ap (λ f. is_none f.3 && is_clear v.error_mask) h.rest ∙ ap (λ m. is_none w.canonical && is_clear m) (h.mask e) ∙ e
 
 -- who was given up or decided, and not both, is not both now
 pub given_up_alone : (w v : Workunit) → Quietly w v → (is_clear w.error_mask ≡ false → is_none w.canonical ≡ true) → is_clear v.error_mask ≡ false
     → is_none w.canonical ≡ true
-given_up_alone w v q before set = by_case (is_undecided w) refl
-  where
-    by_case : (b : Bool) → b ≡ is_undecided w → is_none w.canonical ≡ true
-    by_case true e = and_left (is_none w.canonical) (is_clear w.error_mask) (sym e)
-    by_case false e = before (sym (ap is_clear (q.mask (sym e))) ∙ set)
+given_up_alone w v q before set = grind arith
 
 -- an undecided workunit may get any mask
 any_mask : (w : Workunit) (m : ErrorMask) → is_undecided w ≡ true → is_undecided w ≡ false → m ≡ w.error_mask
@@ -203,10 +187,7 @@ not_clear m lt = ne_eqb (error_mask_code m) 0 (λ e. omega (arith, e, lt))
 
 -- where every instance is sent or closed under a mask that is set
 awaits_given_up : (w : Workunit) → is_clear w.error_mask ≡ false → list_any is_unsent w.instances ≡ false → Awaits w
-awaits_given_up w set none = record {
-  nothing_unsent = λ e. none;
-  undecided = λ e. (let both : true ≡ false = sym (and_left (is_clear w.error_mask) (is_none w.canonical) e) ∙ set in cc);
-}
+awaits_given_up w set none = grind arith
 
 -- a change that leaves each unsent leaves the test for any
 pub unsent_same : (test : Instance → Bool) (f : Instance → Instance) → ((i : Instance) → is_unsent (f i) ≡ is_unsent i) → (xs : List Instance)
@@ -234,58 +215,34 @@ clear_before w e =
 
 -- new bits and new instances
 quietly_extended : (w : Workunit) → Quietly w (extended w)
-quietly_extended w = record {
-  number = refl;
-  name = refl;
-  credit = refl;
-  canonical = refl;
-  done = refl;
-  deletable = λ right. right;
-  sendable = refl;
-  decidable = refl;
-  mask = λ e. ap (λ v. v.error_mask) (extended-unflagged w (no_errors_planned w e) (no_total_planned w e));
-  moment = refl;
-  class = λ e. e;
-  instances = follows w.instances (extended w).instances (all_become-more w.instances (added w));
-}
+quietly_extended w =
+    quietly_to w (extended w).error_mask w.params.target_nresults w.class (extended w).instances refl
+    (λ e. ap (λ v. v.error_mask) (extended-unflagged w (no_errors_planned w e) (no_total_planned w e)))
+    (λ none e. e) (follows w.instances (extended w).instances (all_become-more w.instances (added w)))
 
 -- what is readied is DONE where it was
 pub ready_done : (a : Assimilate) → is_done_assimilate (readied_assimilate a) ≡ is_done_assimilate a
-ready_done assimilate.Init = refl
-ready_done assimilate.Ready = refl
-ready_done assimilate.Done = refl
+ready_done a = grind arith
 
 -- what is closed under a mask
 quietly_settled : (w : Workunit) → Quietly w (settled w)
-quietly_settled w = quietly_either (is_clear w.error_mask) w w (ended w) (quietly_unchanged w) (record {
-  number = refl;
-  name = refl;
-  credit = refl;
-  canonical = refl;
+quietly_settled w = cond_has (Quietly w) (is_clear w.error_mask) w (ended w) (quietly_unchanged w) (record {
+  rest = refl;
   done = ready_done w.assimilate;
   deletable = λ right. right;
-  sendable = refl;
-  decidable = refl;
   mask = λ e. refl;
-  moment = refl;
-  class = λ e. e;
+  class = λ none e. e;
   instances = follows w.instances (map given_up w.instances) (all_become none_made given_up becomes_given_up w.instances);
 })
 
 -- what is named for deletion
 quietly_readied : (w : Workunit) → Quietly w (readied w)
-quietly_readied w = quietly_either (is_done_assimilate w.assimilate) w (with_files_readied w) w (record {
-  number = refl;
-  name = refl;
-  credit = refl;
-  canonical = refl;
+quietly_readied w = cond_has (Quietly w) (is_done_assimilate w.assimilate) (with_files_readied w) w (record {
+  rest = refl;
   done = refl;
   deletable = readied_right (is_all_over w) w.file_delete;
-  sendable = refl;
-  decidable = refl;
   mask = λ e. refl;
-  moment = refl;
-  class = λ e. e;
+  class = λ none e. e;
   instances = follows w.instances (outputs_readied w.canonical w.instances)
       (all_become-placed (with_output_readied w.canonical (list_all is_finished w.instances))
       (λ n i. becomes_readied (may_output_go w.canonical (list_all is_finished w.instances) n i) i) 0 w.instances);
@@ -293,24 +250,9 @@ quietly_readied w = quietly_either (is_done_assimilate w.assimilate) w (with_fil
 
 -- what is freed from its class
 quietly_unbound : (w : Workunit) → Quietly w (unbound w)
-quietly_unbound w = record {
-  number = refl;
-  name = refl;
-  credit = refl;
-  canonical = refl;
-  done = refl;
-  deletable = λ right. right;
-  sendable = refl;
-  decidable = refl;
-  mask = λ e. refl;
-  moment = refl;
-  class = λ e. either (has_active w) e;
-  instances = follows w.instances w.instances (all_stay w.instances);
-}
-  where
-    either : (b : Bool) → w.class ≡ 0 → cond b w.class 0 ≡ 0
-    either true e = e
-    either false e = refl
+quietly_unbound w =
+    quietly_to w w.error_mask w.params.target_nresults (unbound w).class w.instances refl (λ e. refl)
+    (λ none e. grind arith) (follows w.instances w.instances (all_stay w.instances))
 
 -- the transitioner makes nothing VALID, decided or DONE
 pub quietly_transitioned : (w : Workunit) (now : ℕ) → Quietly w (transitioned w now)
@@ -356,14 +298,12 @@ awaits_settled w h = by_case (is_clear (extended w).error_mask) refl
 
 -- naming files for deletion leaves who is waited for
 awaits_readied : (w : Workunit) → Awaits w → Awaits (readied w)
-awaits_readied w h = by_case (is_done_assimilate w.assimilate)
+awaits_readied w h =
+    cond_has Awaits (is_done_assimilate w.assimilate) (with_files_readied w) w
+    (record { nothing_unsent = λ e. same ∙ h.nothing_unsent e; undecided = h.undecided }) h
   where
     same : list_any is_unsent (outputs_readied w.canonical w.instances) ≡ list_any is_unsent w.instances
     same = any-placed is_unsent is_unsent (with_output_readied w.canonical (list_all is_finished w.instances)) (λ n i. refl) 0 w.instances
-
-    by_case : (b : Bool) → Awaits (cond b (with_files_readied w) w)
-    by_case true = record { nothing_unsent = λ e. same ∙ h.nothing_unsent e; undecided = h.undecided }
-    by_case false = h
 
 -- the transitioner leaves who is waited for
 pub awaits_transitioned : (w : Workunit) (now : ℕ) → Awaits w → Awaits (transitioned w now)
@@ -378,70 +318,42 @@ awaits_transitioned w now h =
 pub quietly_checked : (w : Workunit) → Quietly w (checked w)
 quietly_checked w =
     let undecided = is_none w.canonical in
-    quietly_either (is_to_validate w) w (with_refused undecided w) w
+    cond_has (Quietly w) (is_to_validate w) (with_refused undecided w) w
     (quietly_same w (map (refused_where undecided) w.instances) (all_become none_made (refused_where undecided) (becomes_refused_where undecided) w.instances))
     (quietly_unchanged w)
 
 -- that leaves who is waited for
 pub awaits_checked : (w : Workunit) → Awaits w → Awaits (checked w)
-awaits_checked w h = by_case (is_to_validate w)
-  where
-    by_case : (b : Bool) → Awaits (cond b (with_refused (is_none w.canonical) w) w)
-    by_case true = awaits_same w (map (refused_where (is_none w.canonical)) w.instances) (unsent_same (is_no_result (is_none w.canonical)) refused (λ i. refl) w.instances) h
-    by_case false = h
+awaits_checked w h =
+    cond_has Awaits (is_to_validate w) (with_refused (is_none w.canonical) w) w
+    (awaits_same w (map (refused_where (is_none w.canonical)) w.instances)
+    (unsent_same (is_no_result (is_none w.canonical)) refused (λ i. refl) w.instances) h) h
 
 -- ---- without a consensus
 
 -- without a consensus nothing is made VALID
 pub quietly_left_open : (w : Workunit) → is_undecided w ≡ true → Quietly w (left_open w)
-quietly_left_open w undecided = quietly_either (nat_lt w.params.max_success_results (length (viable w))) w _ _
-    (record {
-      number = refl;
-      name = refl;
-      credit = refl;
-      canonical = refl;
-      done = refl;
-      deletable = λ right. right;
-      sendable = refl;
-      decidable = refl;
-      mask = any_mask w (record w.error_mask { too_many_success_results = true }) undecided;
-      moment = refl;
-      class = λ e. e;
-      instances = follows w.instances (map doubted_or_closed w.instances) (all_become none_made doubted_or_closed becomes_doubted_or_closed w.instances);
-    })
-    (record {
-      number = refl;
-      name = refl;
-      credit = refl;
-      canonical = refl;
-      done = refl;
-      deletable = λ right. right;
-      sendable = refl;
-      decidable = refl;
-      mask = λ e. refl;
-      moment = refl;
-      class = λ e. e;
-      instances = follows w.instances (map doubted w.instances) (all_become none_made doubted becomes_doubted w.instances);
-    })
+quietly_left_open w undecided =
+    cond_has (Quietly w) (nat_lt w.params.max_success_results (length (viable w))) _ _
+    (quietly_to w (record w.error_mask { too_many_success_results = true }) w.params.target_nresults w.class (map doubted_or_closed w.instances)
+    refl (any_mask w _ undecided) (λ none e. e)
+    (follows w.instances _ (all_become none_made doubted_or_closed becomes_doubted_or_closed w.instances)))
+    (quietly_to w w.error_mask (raised_target w.params (length (viable w))) w.class (map doubted w.instances)
+    refl (λ e. refl) (λ none e. e) (follows w.instances _ (all_become none_made doubted becomes_doubted w.instances)))
 
 -- without a consensus a workunit waits on, or is given up and closed
 pub awaits_left_open : (w : Workunit) → Awaits w → Awaits (left_open w)
-awaits_left_open w h = by_case (nat_lt w.params.max_success_results (length (viable w)))
+awaits_left_open w h =
+    cond_has Awaits (nat_lt w.params.max_success_results (length (viable w))) _ _
+    (awaits_given_up ended_by_successes (not_clear ended_by_successes.error_mask (omega arith))
+    (any_false-map is_unsent doubted_or_closed (unsent_judged validate.Inconclusive) w.instances))
+    (record { nothing_unsent = λ e. same ∙ h.nothing_unsent e; undecided = h.undecided })
   where
     ended_by_successes : Workunit
     ended_by_successes = record w { error_mask = record w.error_mask { too_many_success_results = true }; instances = map doubted_or_closed w.instances }
 
     same : list_any is_unsent (map doubted w.instances) ≡ list_any is_unsent w.instances
     same = unsent_same is_viable (λ i. record i { validate_state = validate.Inconclusive }) (λ i. refl) w.instances
-
-    raised : Workunit
-    raised = record w { params = record w.params { target_nresults = raised_target w.params (length (viable w)) }; instances = map doubted w.instances }
-
-    by_case : (b : Bool) → Awaits (cond b ended_by_successes raised)
-    by_case true =
-        awaits_given_up ended_by_successes (not_clear ended_by_successes.error_mask (omega arith))
-        (any_false-map is_unsent doubted_or_closed (unsent_judged validate.Inconclusive) w.instances)
-    by_case false = record { nothing_unsent = λ e. same ∙ h.nothing_unsent e; undecided = h.undecided }
 
 -- ---- cancels
 
@@ -453,20 +365,9 @@ follows_cancelled w = follows w.instances (map closed w.instances) (all_become n
 -- a cancel gives up what is undecided
 pub quietly_cancelled : (w : Workunit) → is_undecided w ≡ true → Quietly w (cancelled w)
 unfolding cancelled
-quietly_cancelled w e = record {
-  number = refl;
-  name = refl;
-  credit = refl;
-  canonical = refl;
-  done = refl;
-  deletable = λ right. right;
-  sendable = refl;
-  decidable = refl;
-  mask = any_mask w (record w.error_mask { cancelled = true }) e;
-  moment = refl;
-  class = λ e. e;
-  instances = follows_cancelled w;
-}
+quietly_cancelled w e =
+    quietly_to w (record w.error_mask { cancelled = true }) w.params.target_nresults w.class (map closed w.instances) refl
+    (any_mask w (record w.error_mask { cancelled = true }) e) (λ none e. e) (follows_cancelled w)
 
 -- after a cancel nobody is waited for
 pub awaits_cancelled : (w : Workunit) → Awaits (cancelled w)
@@ -477,26 +378,17 @@ awaits_cancelled w = awaits_given_up (cancelled w) (not_clear (cancelled w).erro
 
 -- a file that is deleted is not in error
 emptied_right : (f : FileDelete) → f ≢ file_delete.Error → cond (is_ready_file f) file_delete.Done f ≢ file_delete.Error
-emptied_right file_delete.Ready right = λ e. cc
-emptied_right file_delete.Init right = right
-emptied_right file_delete.Done right = right
-emptied_right file_delete.Error right = right
+emptied_right f right e = grind arith
 
 -- the file deleter changes files alone
 pub quietly_emptied : (w : Workunit) → Quietly w (emptied w)
 unfolding emptied
 quietly_emptied w = record {
-  number = refl;
-  name = refl;
-  credit = refl;
-  canonical = refl;
+  rest = refl;
   done = refl;
   deletable = emptied_right w.file_delete;
-  sendable = refl;
-  decidable = refl;
   mask = λ e. refl;
-  moment = refl;
-  class = λ e. e;
+  class = λ none e. e;
   instances = follows w.instances (map without_output w.instances) (all_become none_made without_output becomes_without_output w.instances);
 }
 
@@ -517,6 +409,7 @@ none_set p (y ∷ ys) zero x none e = or_from (p x) (list_any p ys) e (or_right 
 none_set p (y ∷ ys) (suc n) x none e =
     or_from (p y) (list_any p (slice_set ys n x)) (or_left (p y) (list_any p ys) none) (none_set p ys n x (or_right (p y) (list_any p ys) none) e)
 
--- one instance that is not unsent leaves who is waited for
-pub awaits_set : (w : Workunit) (n : ℕ) (i : Instance) → is_unsent i ≡ false → Awaits w → Awaits (record w { instances = slice_set w.instances n i })
-awaits_set w n i e h = record { nothing_unsent = λ f. none_set is_unsent w.instances n i (h.nothing_unsent f) e; undecided = h.undecided }
+-- one instance that is not unsent leaves who is waited for, in whatever class
+pub awaits_set : (w : Workunit) (class n : ℕ) (i : Instance) → is_unsent i ≡ false → Awaits w
+    → Awaits (record w { class = class; instances = slice_set w.instances n i })
+awaits_set w class n i e h = record { nothing_unsent = λ f. none_set is_unsent w.instances n i (h.nothing_unsent f) e; undecided = h.undecided }

@@ -1,5 +1,5 @@
 -- Which results are granted credit, and how a canonical one is chosen.
-use Rattle.std.proofs.Common.{◌≡◌, ℕ, zero, suc, ◌+◌, ◌/◌, ◌<◌, nat_le, Bool, true, false, cond, ◌&&◌, List, [], ◌∷◌, map, length, filter, Option, Some, None, refl, sym, ap, subst, ◌∙◌, bytes_eq, is_none, zero-add, leb-true, le-leb, ◌↔◌, arith}
+use Rattle.std.proofs.Common.{◌≡◌, ℕ, zero, suc, ◌+◌, ◌/◌, ◌<◌, nat_le, Bool, true, false, cond, ◌&&◌, List, [], ◌∷◌, map, length, filter, Option, Some, None, refl, sym, ap, subst, ◌∙◌, bytes_eq, zero-add, leb-true, le-leb, ◌↔◌, arith}
 use Rattle.std.specs.List.{position_from, filter_map, cons_option, enumerate_from, slice_get, All, AllByRecursion, AllPairs}
 use Rattle.std.specs.Option.{option_map}
 use Rattle.std.proofs.lemmas.Option.{slice_get-map}
@@ -9,15 +9,14 @@ use Rattle.wu_core.specs.declared.workunit.Instance.{Instance}
 use Rattle.wu_core.specs.declared.workunit.Workunit.{Workunit}
 use Rattle.wu_core.specs.declared.workunit.Grant.{Grant}
 use Rattle.wu_core.specs.Parameters.{Parameters}
-use Rattle.wu_core.specs.declared.states.ValidateState.{ValidateState}
 use Rattle.wu_core.specs.declared.states.ValidateState.TheVariants as validate
-use Rattle.wu_rules.specs.Instances.{is_success, is_viable, is_new, is_init_verdict, is_open_verdict, closed}
+use Rattle.wu_rules.specs.Instances.{is_viable, is_open_verdict}
 use Rattle.wu_rules.specs.Counts.{viable, agreeing, is_agreed, consensus}
-use Rattle.wu_rules.specs.Validation.{checked, concluded, credited, is_to_validate, output_at, is_deleted_at, verdict, judged_by, judged_late_by, agreed_on, judged_after, decided, validated_by, validated, grant_of, is_judged, granted_to, grants_by, grants_decided, grants_after, granted_by, grants}
+use Rattle.wu_rules.specs.Validation.{checked, concluded, credited, output_at, judged_by, judged_late_by, agreed_on, validated, grant_of, is_judged, granted_to, grants_by, grants}
 use Rattle.wu_rules_laws.specs.Laws.{IsChosen, rehosted, IsRightGrantIn}
 use Rattle.wu_rules.proofs.Lists.{count_step}
 use Rattle.wu_rules_laws.proofs.Changed.{placed, count-placed}
-use Rattle.wu_rules_laws.proofs.Checking.{at_checked, becomes_checked, checked_in, checked_number, checked_params, stands_checked}
+use Rattle.wu_rules_laws.proofs.Checking.{at_checked, becomes_checked, checked_in, checked_number, checked_params, concluded_has, late, stands_checked}
 use Rattle.wu_rules_laws.proofs.Spent.{and_from, and_left, and_right}
 
 -- ---- the first that passes
@@ -85,11 +84,6 @@ chosen_exactly w n = (chosen w n, chosen_first w n)
 
 -- ---- hosts
 
--- the same hosts or others, outputs and states decide
-count_same : {A : Type 0} (p q : A → Bool) → ((x : A) → p x ≡ q x) → (xs : List A) → length (filter p xs) ≡ length (filter q xs)
-count_same p q same [] = refl
-count_same p q same (x ∷ xs) = count_step (p x) (q x) x x (filter p xs) (filter q xs) (same x) (count_same p q same xs)
-
 -- a filter of a filter counts what passes both
 count_both : {A : Type 0} (p q : A → Bool) (xs : List A) → length (filter q (filter p xs)) ≡ length (filter (λ x. p x && q x) xs)
 count_both p q [] = refl
@@ -131,12 +125,7 @@ kept_all {A} {B} P h s (x ∷ xs) each = by_case (h s x) refl (kept_all P h (s +
     by_case (Some b) e r = (each 0 x b refl ((let z : s + 0 ≡ s = omega arith in ap (λ m. h m x) z) ∙ sym e), r)
 
 pub granted_number : (w : Workunit) (output : List ℕ) (n : ℕ) (i : Instance) (g : Grant) → granted_to w output n i ≡ Some g → (is_judged w i ≡ true) × (bytes_eq i.output output ≡ true) × (option_map (λ host. record { workunit = w.number; n = n; host = host; credit = w.params.credit }) i.host ≡ Some g)
-granted_number w output n i g e = by_case (is_judged w i) (bytes_eq i.output output) e
-  where
-    by_case : (a b : Bool) → cond (a && b) (grant_of w n i) None ≡ Some g → (a ≡ true) × (b ≡ true) × (grant_of w n i ≡ Some g)
-    by_case true true f = (refl, refl, f)
-    by_case true false f = cc
-    by_case false b f = cc
+granted_number w output n i g e = grind arith
 
 -- the parts of a grant
 pub record NamesBy (w : Workunit) (n : ℕ) (o : Option (List ℕ)) (g : Grant) : Type 0 where
@@ -146,20 +135,14 @@ pub record NamesBy (w : Workunit) (n : ℕ) (o : Option (List ℕ)) (g : Grant) 
   pub credit : g.credit ≡ w.params.credit
 
 pub names : (w : Workunit) (n : ℕ) (i : Instance) (g : Grant) → grant_of w n i ≡ Some g → NamesBy w n i.host g
-names w n i g e = by_case i.host e
-  where
-    made : List ℕ → Grant
-    made host = record { workunit = w.number; n = n; host = host; credit = w.params.credit }
+names w n i g e = grind arith
 
-    by_case : (o : Option (List ℕ)) → option_map made o ≡ Some g → NamesBy w n o g
-    by_case None f = cc
-    by_case (Some host) f =
-        let same : made host ≡ g = cc in
-        subst (λ v. NamesBy w n (Some host) v) same (record { workunit = refl; number = refl; host = refl; credit = refl })
+judged_open : (w : Workunit) (i : Instance) → is_judged w i ≡ true → is_open_verdict i.validate_state ≡ true
+judged_open w i judged = grind arith
 
 -- a grant of these, for an instance that is judged and becomes VALID
-right : (w : Workunit) (f : Instance → Instance) (output : List ℕ) (v : Workunit) → v.instances ≡ map f w.instances → ((i : Instance) → is_judged w i ≡ true → is_open_verdict i.validate_state ≡ true) → ((i : Instance) → is_judged w i ≡ true → bytes_eq i.output output ≡ true → (f i).validate_state ≡ validate.Valid) → AllByRecursion (IsRightGrantIn w v) (grants_by w output)
-right w f output v images opens valid = kept_all (IsRightGrantIn w v) (granted_to w output) 0 w.instances each
+right : (w : Workunit) (f : Instance → Instance) (output : List ℕ) (v : Workunit) → v.instances ≡ map f w.instances → ((i : Instance) → is_judged w i ≡ true → bytes_eq i.output output ≡ true → (f i).validate_state ≡ validate.Valid) → AllByRecursion (IsRightGrantIn w v) (grants_by w output)
+right w f output v images valid = kept_all (IsRightGrantIn w v) (granted_to w output) 0 w.instances each
   where
     each : (k : ℕ) (i : Instance) (g : Grant) → slice_get w.instances k ≡ Some i → granted_to w output (0 + k) i ≡ Some g → IsRightGrantIn w v g
     each k i g here given =
@@ -169,7 +152,7 @@ right w f output v images opens valid = kept_all (IsRightGrantIn w v) (granted_t
         record {
           instance = i;
           stands = ap (λ m. slice_get w.instances m) at ∙ here;
-          open_before = opens i parts.0;
+          open_before = judged_open w i parts.0;
           valid_after =
               ap (λ m. option_map (λ j. j.validate_state) (slice_get v.instances m)) at
               ∙ (ap (λ zs. option_map (λ j. j.validate_state) (slice_get zs k)) images
@@ -180,59 +163,23 @@ right w f output v images opens valid = kept_all (IsRightGrantIn w v) (granted_t
           credit = named.credit;
         }
 
-new_is_open : (s : Bool) (v : ValidateState) → (s && is_init_verdict v) ≡ true → is_open_verdict v ≡ true
-new_is_open true validate.Init e = refl
-new_is_open true validate.Inconclusive e = refl
-new_is_open true validate.Valid e = e
-new_is_open true validate.Invalid e = e
-new_is_open true validate.NoCheck e = e
-new_is_open true validate.TooLate e = e
-new_is_open false v e = cc
+-- before the decision a viable success with this output becomes VALID, after it a new one
+valid_agreed : (w : Workunit) (output : List ℕ) (i : Instance) → w.canonical ≡ None → is_judged w i ≡ true → bytes_eq i.output output ≡ true
+    → (judged_by output i).validate_state ≡ validate.Valid
+valid_agreed w output i none judged e = grind arith
 
--- before the decision viable successes are judged, after it new ones
-judged_viable : (w : Workunit) → w.canonical ≡ None → (i : Instance) → is_judged w i ≡ true → is_viable i ≡ true
-judged_viable w none i e = ap (λ o. cond (is_none o) (is_viable i) (is_new i)) (sym none) ∙ e
-
-judged_new : (w : Workunit) (c : ℕ) → w.canonical ≡ Some c → (i : Instance) → is_judged w i ≡ true → is_new i ≡ true
-judged_new w c some i e = ap (λ o. cond (is_none o) (is_viable i) (is_new i)) (sym some) ∙ e
-
-valid_agreed : (output : List ℕ) (i : Instance) → is_viable i ≡ true → bytes_eq i.output output ≡ true → (judged_by output i).validate_state ≡ validate.Valid
-valid_agreed output i v e = ap (λ b. (cond b (record i { validate_state = verdict (bytes_eq i.output output) }) (closed i)).validate_state) v ∙ ap verdict e
-
-valid_late : (output : List ℕ) (i : Instance) → is_new i ≡ true → bytes_eq i.output output ≡ true → (judged_late_by false output i).validate_state ≡ validate.Valid
-valid_late output i v e = ap (λ b. (cond b (record i { validate_state = verdict (bytes_eq i.output output) }) i).validate_state) v ∙ ap verdict e
-
-right_decided : (w : Workunit) → w.canonical ≡ None → (o : Option ℕ) → AllByRecursion (IsRightGrantIn w (decided w o)) (grants_decided w o)
-right_decided w none None = tt
-right_decided w none (Some n) =
-    let output = output_at w.instances n in
-    right w (judged_by output) output (agreed_on w n) refl
-    (λ i j. and_right (is_success i) (is_open_verdict i.validate_state) (judged_viable w none i j))
-    (λ i j e. valid_agreed output i (judged_viable w none i j) e)
-
-right_after : (w : Workunit) (c : ℕ) → w.canonical ≡ Some c → AllByRecursion (IsRightGrantIn w (judged_after w c)) (grants_after w c)
-right_after w c some = by_case (is_deleted_at w.instances c)
-  where
-    output : List ℕ
-    output = output_at w.instances c
-
-    by_case : (b : Bool) → AllByRecursion (IsRightGrantIn w (record w { instances = map (judged_late_by b output) w.instances })) (cond b [] (grants_by w output))
-    by_case true = tt
-    by_case false = right w (judged_late_by false output) output (record w { instances = map (judged_late_by false output) w.instances }) refl
-        (λ i j. new_is_open (is_success i) i.validate_state (judged_new w c some i j))
-        (λ i j e. valid_late output i (judged_new w c some i j) e)
-
-right_by : (w : Workunit) (o : Option ℕ) → w.canonical ≡ o → AllByRecursion (IsRightGrantIn w (validated_by w o)) (granted_by w o)
-right_by w None e = right_decided w e (consensus w)
-right_by w (Some c) e = right_after w c e
+valid_late : (w : Workunit) (output : List ℕ) (i : Instance) (c : ℕ) → w.canonical ≡ Some c → is_judged w i ≡ true → bytes_eq i.output output ≡ true
+    → (judged_late_by false output i).validate_state ≡ validate.Valid
+valid_late w output i c some judged e = grind arith
 
 pub credits_right : (w : Workunit) → All (IsRightGrantIn w (concluded w)) (credited w)
-unfolding concluded credited
-credits_right w = All-from_recursion (IsRightGrantIn w (concluded w)) (credited w) (by_case (is_to_validate w))
-  where
-    by_case : (b : Bool) → AllByRecursion (IsRightGrantIn w (cond b (validated_by w w.canonical) w)) (cond b (granted_by w w.canonical) [])
-    by_case true = right_by w w.canonical refl
-    by_case false = tt
+credits_right w = All-from_recursion (IsRightGrantIn w (concluded w)) (credited w)
+    (concluded_has (λ v gs. AllByRecursion (IsRightGrantIn w v) gs) w tt (λ c looked some. tt)
+    (λ c looked some. right w (judged_late_by false (output_at w.instances c)) (output_at w.instances c) (late w false c) refl
+    (λ i j e. valid_late w (output_at w.instances c) i c some j e))
+    (λ n looked none agreed. right w (judged_by (output_at w.instances n)) (output_at w.instances n) (agreed_on w n) refl
+    (λ i j e. valid_agreed w (output_at w.instances n) i none j e))
+    (λ looked none. tt))
 
 -- a grant of what is left is of an instance that was open before
 right_before : (w v : Workunit) (g : Grant) → IsRightGrantIn (checked w) v g → IsRightGrantIn w v g
@@ -290,24 +237,10 @@ by_increasing : (w : Workunit) (output : List ℕ) → AllPairs (λ a b. a.n < b
 by_increasing w output = increasing (granted_to w output) (λ n i g e. (names w n i g (granted_number w output n i g e).2).number) 0 w.instances
 
 credits_increasing : (w : Workunit) → AllPairs (λ a b. a.n < b.n) (credited w)
-unfolding credited
-credits_increasing w = by_case (is_to_validate w) (by_canonical w.canonical)
-  where
-    decide : (o : Option ℕ) → AllPairs (λ a b. a.n < b.n) (grants_decided w o)
-    decide None = none_increasing
-    decide (Some n) = by_increasing w (output_at w.instances n)
-
-    after : (b : Bool) (output : List ℕ) → AllPairs (λ a b. a.n < b.n) (cond b [] (grants_by w output))
-    after true output = none_increasing
-    after false output = by_increasing w output
-
-    by_canonical : (o : Option ℕ) → AllPairs (λ a b. a.n < b.n) (granted_by w o)
-    by_canonical None = decide (consensus w)
-    by_canonical (Some c) = after (is_deleted_at w.instances c) (output_at w.instances c)
-
-    by_case : (b : Bool) → AllPairs (λ a b. a.n < b.n) (granted_by w w.canonical) → AllPairs (λ a b. a.n < b.n) (cond b (granted_by w w.canonical) [])
-    by_case true r = r
-    by_case false r = none_increasing
+credits_increasing w =
+    concluded_has (λ v gs. AllPairs (λ a b. a.n < b.n) gs) w none_increasing (λ c looked some. none_increasing)
+    (λ c looked some. by_increasing w (output_at w.instances c)) (λ n looked none agreed. by_increasing w (output_at w.instances n))
+    (λ looked none. none_increasing)
 
 pub grants_increasing : (w : Workunit) → AllPairs (λ a b. a.n < b.n) (grants w)
 unfolding grants

@@ -45,18 +45,22 @@ at_set f (x ∷ xs) (suc n) i j here same zero = refl
 at_set f (x ∷ xs) (suc n) i j here same (suc k) = at_set f xs n i j here same k
 
 -- each other is as before
+pub set_elsewhere : (xs : List Instance) (n : ℕ) (j : Instance) (k : ℕ) → k ≢ n → slice_get (slice_set xs n j) k ≡ slice_get xs k
+set_elsewhere [] n j k other = refl
+set_elsewhere (x ∷ xs) zero j zero other = absurd (other refl)
+set_elsewhere (x ∷ xs) zero j (suc k) other = refl
+set_elsewhere (x ∷ xs) (suc n) j zero other = refl
+set_elsewhere (x ∷ xs) (suc n) j (suc k) other = set_elsewhere xs n j k (λ same. other (ap suc same))
+
+-- and its host
 pub at_other : (xs : List Instance) (n : ℕ) (j : Instance) (k : ℕ) → k ≢ n → instance_host (slice_set xs n j) k ≡ instance_host xs k
-at_other [] n j k other = refl
-at_other (x ∷ xs) zero j zero other = absurd (other refl)
-at_other (x ∷ xs) zero j (suc k) other = refl
-at_other (x ∷ xs) (suc n) j zero other = refl
-at_other (x ∷ xs) (suc n) j (suc k) other = at_other xs n j k (λ same. other (ap suc same))
+at_other xs n j k other = ap (λ o. option_map_or (λ (x : Instance). x.host) o None) (set_elsewhere xs n j k other)
 
 -- and it is there
-at_here : (xs : List Instance) (n : ℕ) (i j : Instance) → slice_get xs n ≡ Some i → instance_host (slice_set xs n j) n ≡ j.host
-at_here [] n i j here = cc
-at_here (x ∷ xs) zero i j here = refl
-at_here (x ∷ xs) (suc n) i j here = at_here xs n i j here
+pub set_here : (xs : List Instance) (n : ℕ) (i j : Instance) → slice_get xs n ≡ Some i → slice_get (slice_set xs n j) n ≡ Some j
+set_here [] n i j here = cc
+set_here (x ∷ xs) zero i j here = refl
+set_here (x ∷ xs) (suc n) i j here = set_here xs n i j here
 
 -- what holds of all holds with it, where it holds of it
 pub all_set : (P : Instance → Type 0) (xs : List Instance) (n : ℕ) (j : Instance) → P j → AllByRecursion P xs → AllByRecursion P (slice_set xs n j)
@@ -91,11 +95,7 @@ none_hosted (x ∷ xs) ys stay none = or_from (is_some x.host) (list_any (λ i. 
 pub hosted_set : (xs : List Instance) (n : ℕ) (i j : Instance) → slice_get xs n ≡ Some i → is_some j.host ≡ true → list_any (λ k. is_some k.host) (slice_set xs n j) ≡ true
 hosted_set [] n i j here sent = cc
 hosted_set (x ∷ xs) zero i j here sent = ap (λ b. b || list_any (λ k. is_some k.host) xs) sent
-hosted_set (x ∷ xs) (suc n) i j here sent = ap (λ b. is_some x.host || b) (hosted_set xs n i j here sent) ∙ or_true (is_some x.host)
-  where
-    or_true : (b : Bool) → (b || true) ≡ true
-    or_true true = refl
-    or_true false = refl
+hosted_set (x ∷ xs) (suc n) i j here sent = let rest = hosted_set xs n i j here sent in grind arith
 
 -- a host that has none of the instances has not this one
 has_none : (xs : List Instance) (host : List ℕ) (n : ℕ) → list_any (is_of host) xs ≡ false → instance_host xs n ≢ Some host
@@ -134,7 +134,8 @@ module _ (xs : List Instance) (n : ℕ) (i j : Instance) (here : slice_get xs n 
       where
         elsewhere : (l : ℕ) → l ≢ n → instance_host (slice_set xs n j) n ≡ Some its → instance_host (slice_set xs n j) l ≡ Some its → ⊥
         elsewhere l other own there =
-            let same : Some host ≡ Some its = sym (at_here xs n i j here ∙ sent) ∙ own in
+            let here_now : instance_host (slice_set xs n j) n ≡ j.host = ap (λ o. option_map_or (λ (x : Instance). x.host) o None) (set_here xs n i j here) in
+            let same : Some host ≡ Some its = sym (here_now ∙ sent) ∙ own in
             has_none xs host l none (sym (at_other xs n j l other) ∙ there ∙ sym same)
 
 -- ---- pairs of instances

@@ -1,6 +1,6 @@
 -- How many instances a transition makes.
-use Rattle.std.proofs.Common.{◌≡◌, ℕ, zero, suc, ◌+◌, ◌<◌, ◌≤◌, ◌==◌, nat_lt, min, Bool, true, false, not, cond, ◌&&◌, List, [], ◌∷◌, ◌++◌, length, replicate, slice_get, Option, Some, None, is_none, option_map, refl, sym, ap, ◌∙◌, arith}
-use Rattle.std.proofs.lemmas.Bool.{ne_eqb}
+use Rattle.std.proofs.Common.{◌≡◌, ℕ, zero, suc, ◌+◌, ◌<◌, ◌≤◌, nat_lt, min, Bool, true, false, cond, ◌&&◌, List, [], ◌∷◌, ◌++◌, length, replicate, slice_get, Option, Some, None, is_none, option_map, refl, sym, ap, ◌∙◌, arith}
+use Rattle.std.proofs.lemmas.Bool.Decides.{nat_tests}
 use Rattle.std.proofs.lemmas.List.{length-map}
 use Rattle.std.proofs.lemmas.Option.{slice_get_within}
 use Rattle.std.specs.List.{list_all}
@@ -9,10 +9,10 @@ use Rattle.wu_core.specs.declared.workunit.Instance.{Instance}
 use Rattle.wu_core.specs.declared.workunit.Workunit.{Workunit}
 use Rattle.wu_rules.specs.Instances.{given_up, is_done_assimilate, is_in_progress, is_kept, is_unsent, timed_out}
 use Rattle.wu_rules.specs.Counts.{errors, in_progress, is_clear, is_undecided, kept, unsent}
-use Rattle.wu_rules.specs.Transition.{added, allowed, ended, extended, has_too_many_errors, has_too_many_total, is_finished, is_idle, is_open, needed, readied, settled, timed, transitioned, with_files_readied, with_output_readied}
+use Rattle.wu_rules.specs.Transition.{added, allowed, ended, extended, has_too_many_errors, has_too_many_total, is_finished, needed, readied, settled, timed, transitioned, with_files_readied, with_output_readied}
 use Rattle.wu_rules_laws.specs.Transitions.{BringsUp, hoped_for}
-use Rattle.wu_rules_laws.proofs.Changed.{and_false, cond_keeps, count-placed, length-placed, placed}
-use Rattle.wu_rules_laws.proofs.Planned.{count-grown-all, count-grown-none, extended-unflagged, grown, length-grown, quiet-transitioned}
+use Rattle.wu_rules_laws.proofs.Changed.{cond_keeps, length-placed, placed}
+use Rattle.wu_rules_laws.proofs.Planned.{count-grown-all, count-grown-none, count-readied, extended-unflagged, grown, length-grown, quiet-transitioned}
 use Rattle.wu_rules_laws.proofs.Spent.{and_left, and_right}
 
 -- ---- places of lists
@@ -44,10 +44,9 @@ at_grown (x ∷ xs) k (suc n) i le e = at_grown xs k n i (omega (arith, le)) e
 
 hoped-readied : (w : Workunit) → hoped_for (readied w) ≡ hoped_for w
 hoped-readied w =
-    let f = with_output_readied w.canonical (list_all is_finished w.instances) in
-    let u : unsent (with_files_readied w) ≡ unsent w = count-placed is_unsent is_unsent f (λ n x. refl) 0 w.instances in
-    let p : in_progress (with_files_readied w) ≡ in_progress w = count-placed is_in_progress is_in_progress f (λ n x. refl) 0 w.instances in
-    let k : kept (with_files_readied w) ≡ kept w = count-placed is_kept is_kept f (λ n x. refl) 0 w.instances in
+    let u : unsent (with_files_readied w) ≡ unsent w = count-readied is_unsent (λ x f. refl) w in
+    let p : in_progress (with_files_readied w) ≡ in_progress w = count-readied is_in_progress (λ x f. refl) w in
+    let k : kept (with_files_readied w) ≡ kept w = count-readied is_kept (λ x f. refl) w in
     let same : hoped_for (with_files_readied w) ≡ hoped_for w = rw (u, p, k) refl in
     cond_keeps hoped_for (is_done_assimilate w.assimilate) (with_files_readied w) w same
 
@@ -77,35 +76,20 @@ params-transitioned w now =
 
 -- ---- where instances are made, nothing else comes
 
-pub not_true : (b : Bool) → not b ≡ true → b ≡ false
-not_true true e = cc
-not_true false e = refl
-
 record Makes (t : Workunit) : Type 0 where
   undecided : is_undecided t ≡ true
   many : added t ≡ min (needed t) (allowed t)
   image : settled (extended t) ≡ grown t (added t)
 
-opened : (t : Workunit) → 0 < added t → is_open t ≡ true
-opened t some = by (is_open t) refl
-  where
-    by : (b : Bool) → is_open t ≡ b → b ≡ true
-    by true e = refl
-    by false e = let none : added t ≡ 0 = ap (λ b. cond b (min (needed t) (allowed t)) 0) e in absurd (omega (arith, some, none))
-
 makes : (t : Workunit) → 0 < added t → Makes t
 makes t some =
-    let open_t : is_open t ≡ true = opened t some in
-    let undecided = and_left (is_undecided t) (not (nat_lt t.params.max_error_results (errors t))) open_t in
-    let borne = not_true _ (and_right (is_undecided t) (not (nat_lt t.params.max_error_results (errors t))) open_t) in
-    let many : added t ≡ min (needed t) (allowed t) = ap (λ b. cond b (min (needed t) (allowed t)) 0) open_t in
-    let no_errors : has_too_many_errors t ≡ false = and_false (is_undecided t) _ borne in
-    let room : (allowed t == 0) ≡ false = ne_eqb (allowed t) 0 (λ e. omega (arith, some, many, e)) in
-    let no_total : has_too_many_total t ≡ false = ap (λ b. b && is_idle t) (and_false (is_open t && nat_lt 0 (needed t)) (allowed t == 0) room) in
+    let no_errors : has_too_many_errors t ≡ false = grind (arith, nat_tests) in
+    let no_total : has_too_many_total t ≡ false = grind (arith, nat_tests) in
+    let undecided : is_undecided t ≡ true = grind (arith, nat_tests) in
     let clear = and_right (is_none t.canonical) (is_clear t.error_mask) undecided in
     record {
       undecided = undecided;
-      many = many;
+      many = grind (arith, nat_tests);
       image = ap settled (extended-unflagged t no_errors no_total) ∙ ap (λ b. cond b (grown t (added t)) (ended (grown t (added t)))) clear;
     }
 
@@ -126,8 +110,7 @@ undecided-made t it =
 
 -- of an undecided workunit no new instance has its output named
 new_stays : (c : Option ℕ) (b : Bool) (n : ℕ) → is_none c ≡ true → with_output_readied c b n fresh ≡ fresh
-new_stays None b n e = refl
-new_stays (Some k) b n e = cc
+new_stays c b n e = grind arith
 
 new-made : (t : Workunit) → Makes t → (n : ℕ) (i : Instance) → length t.instances ≤ n
     → slice_get (readied (settled (extended t))).instances n ≡ Some i → i ≡ fresh

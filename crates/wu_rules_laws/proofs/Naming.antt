@@ -1,5 +1,6 @@
 -- Which files a transition names for deletion.
-use Rattle.std.proofs.Common.{◌≡◌, ◌⊎◌, ℕ, zero, suc, ◌==◌, Bool, true, false, not, cond, List, [], ◌∷◌, slice_get, Option, Some, None, refl, sym, ap, subst, ◌∙◌, inl, inr, eqb-true, eq-eqb}
+use Rattle.std.proofs.Common.{◌≡◌, ◌⊎◌, ℕ, zero, suc, ◌==◌, Bool, true, false, cond, List, [], ◌∷◌, slice_get, Option, Some, refl, sym, ap, subst, ◌∙◌, arith}
+use Rattle.std.proofs.lemmas.Bool.Decides.{nat_tests}
 use Rattle.std.proofs.lemmas.List.Elements.{All-weaker}
 use Rattle.std.proofs.lemmas.List.Sums.{AllPass-from_list_all, list_all-from_AllPass}
 use Rattle.std.specs.List.{list_all}
@@ -11,31 +12,26 @@ use Rattle.wu_core.specs.declared.states.Assimilate.{Assimilate}
 use Rattle.wu_core.specs.declared.states.Assimilate.TheVariants as assimilate
 use Rattle.wu_core.specs.declared.states.FileDelete.{FileDelete}
 use Rattle.wu_core.specs.declared.states.FileDelete.TheVariants as file_delete
-use Rattle.wu_core.specs.declared.states.Outcome.TheVariants as outcome
-use Rattle.wu_core.specs.declared.states.ServerState.TheVariants as server
-use Rattle.wu_core.specs.declared.states.ValidateState.TheVariants as validate
-use Rattle.wu_rules.specs.Instances.{given_up, is_done_assimilate, is_over, is_overdue, is_unsent, is_viable, readied_assimilate, readied_file, timed_out, without_reply}
+use Rattle.wu_rules.specs.Instances.{given_up, is_done_assimilate, is_over, readied_file, timed_out}
 use Rattle.wu_rules.specs.Counts.{is_clear}
 use Rattle.wu_rules.specs.Transition.{ended, extended, is_all_over, is_finished, may_output_go, readied, settled, timed, transitioned, with_files_readied, with_output_readied}
 use Rattle.wu_rules_laws.specs.Transitions.{IsFinished, IsNamed, MayGo, NamesFiles}
 use Rattle.wu_rules_laws.proofs.Changed.{all-placed, cond_keeps}
 use Rattle.wu_rules_laws.proofs.Choosing.{settled_keeps}
 use Rattle.wu_rules_laws.proofs.Ending.{readied_at, settled_at}
-use Rattle.wu_rules_laws.proofs.Making.{not_true}
-use Rattle.wu_rules_laws.proofs.Spent.{and_from, and_left, and_right}
+use Rattle.wu_rules_laws.proofs.Following.{ready_done}
+use Rattle.wu_rules_laws.proofs.Spent.{and_left, and_right}
 
 -- ---- tests and what they say
 
 done_of : (a : Assimilate) → is_done_assimilate a ≡ true → a ≡ assimilate.Done
-done_of assimilate.Done e = refl
-done_of assimilate.Init e = cc
-done_of assimilate.Ready e = cc
+done_of a e = grind arith
 
 finished_of : (i : Instance) → is_finished i ≡ true → IsFinished i
-finished_of i e = (and_left (is_over i) (not (is_viable i)) e, not_true (is_viable i) (and_right (is_over i) (not (is_viable i)) e))
+finished_of i e = grind arith
 
 finished_test : (i : Instance) → IsFinished i → is_finished i ≡ true
-finished_test i it = and_from (is_over i) (not (is_viable i)) it.0 (ap not it.1)
+finished_test i it = grind arith
 
 all_finished_of : (xs : List Instance) → list_all is_finished xs ≡ true → All IsFinished xs
 all_finished_of xs e = All-weaker (λ i. is_finished i ≡ true) IsFinished finished_of xs (AllPass-from_list_all is_finished xs e)
@@ -57,9 +53,7 @@ file_of done may f = cond done (readied_file may f) f
 
 named_file : (done may : Bool) (f : FileDelete) → IsNamed f (file_of done may f) → (done ≡ true) × (may ≡ true)
 unfolding file_of
-named_file true true f it = (refl, refl)
-named_file true false f it = absurd (let start = it.0 in let after = it.1 in cc)
-named_file false may f it = absurd (let start = it.0 in let after = it.1 in cc)
+named_file done may f it = grind arith
 
 file_named : (f : FileDelete) → f ≡ file_delete.Init → IsNamed f (file_of true true f)
 unfolding file_of
@@ -67,22 +61,12 @@ file_named f e = (e, ap (λ g. readied_file true g) e)
 
 file_stays : (done may : Bool) (f : FileDelete) → (file_of done may f ≡ f) ⊎ IsNamed f (file_of done may f)
 unfolding file_of
-file_stays false may f = inl refl
-file_stays true false f = inl refl
-file_stays true true file_delete.Init = inr (refl, refl)
-file_stays true true file_delete.Ready = inl refl
-file_stays true true file_delete.Done = inl refl
-file_stays true true file_delete.Error = inl refl
+file_stays done may f = grind arith
 
 -- ---- what naming sees
 
 done_settled : (e : Workunit) → is_done_assimilate (settled e).assimilate ≡ is_done_assimilate e.assimilate
-done_settled e = cond_keeps (λ v. is_done_assimilate v.assimilate) (is_clear e.error_mask) e (ended e) (sym (same e.assimilate)) ∙ same e.assimilate
-  where
-    same : (a : Assimilate) → is_done_assimilate (readied_assimilate a) ≡ is_done_assimilate a
-    same assimilate.Init = refl
-    same assimilate.Ready = refl
-    same assimilate.Done = refl
+done_settled e = cond_keeps (λ v. is_done_assimilate v.assimilate) (is_clear e.error_mask) e (ended e) (sym (ready_done e.assimilate)) ∙ ready_done e.assimilate
 
 all_named : (p : Instance → Bool) → ((b : Bool) (n : ℕ) (c : Option ℕ) (x : Instance) → p (with_output_readied c b n x) ≡ p x) → (s : Workunit)
     → list_all p (readied s).instances ≡ list_all p s.instances
@@ -92,42 +76,16 @@ all_named p same s =
 
 -- the file of an instance is named by nothing else
 file_kept : (now : ℕ) (clear : Bool) (i : Instance) → (cond clear (timed_out now i) (given_up (timed_out now i))).file_delete ≡ i.file_delete
-file_kept now clear i = by clear (is_overdue now i)
-  where
-    timed_file : (b : Bool) → (cond b (without_reply i) i).file_delete ≡ i.file_delete
-    timed_file true = refl
-    timed_file false = refl
-
-    given_up_file : (x : Instance) → (given_up x).file_delete ≡ x.file_delete
-    given_up_file x = states (is_viable x) (is_unsent x)
-      where
-        states : (v u : Bool) → (cond v (record x { validate_state = validate.NoCheck }) (cond u (record x { server_state = server.Over; outcome = outcome.DidntNeed }) x)).file_delete ≡ x.file_delete
-        states true u = refl
-        states false true = refl
-        states false false = refl
-
-    by : (c b : Bool) → (cond c (cond b (without_reply i) i) (given_up (cond b (without_reply i) i))).file_delete ≡ i.file_delete
-    by true b = timed_file b
-    by false b = given_up_file (cond b (without_reply i) i) ∙ timed_file b
+file_kept now clear i = grind arith
 
 -- ---- when an output may go
 
 may_of : (c : Option ℕ) (all : Bool) (n : ℕ) (j : Instance) → (all ≡ true → is_finished j ≡ true) → may_output_go c all n j ≡ true
     → (is_finished j ≡ true) × (c ≡ Some n → all ≡ true)
-may_of None all n j each e = (e, λ is. cc)
-may_of (Some k) all n j each e = by (k == n) refl e
-  where
-    by : (b : Bool) → (k == n) ≡ b → cond b all (is_finished j) ≡ true → (is_finished j ≡ true) × (Some k ≡ Some n → all ≡ true)
-    by true is go = (each go, λ same. go)
-    by false is go = (go, λ same. absurd (let here : k ≡ n = cc in let both : true ≡ false = sym (eq-eqb k n here) ∙ is in cc))
+may_of c all n j each e = grind (arith, nat_tests)
 
 may_test : (c : Option ℕ) (all : Bool) (n : ℕ) (j : Instance) → is_finished j ≡ true → (c ≡ Some n → all ≡ true) → may_output_go c all n j ≡ true
-may_test None all n j finished after = finished
-may_test (Some k) all n j finished after = by (k == n) refl
-  where
-    by : (b : Bool) → (k == n) ≡ b → cond b all (is_finished j) ≡ true
-    by true is = after (ap Some (eqb-true k n is))
-    by false is = finished
+may_test c all n j finished after = grind (arith, nat_tests)
 
 -- ---- the law
 
@@ -155,9 +113,6 @@ input_is w now =
     by true = refl
     by false = refl
 
-some_same : (i j : Instance) → Some i ≡ Some j → i ≡ j
-some_same i j e = cc
-
 -- an output that is named or not, by whether it may go
 output_is : (w : Workunit) (now n : ℕ) (i j : Instance) → slice_get w.instances n ≡ Some i → slice_get (transitioned w now).instances n ≡ Some j
     → j.file_delete ≡ file_of (is_done_assimilate w.assimilate) (may_output_go w.canonical (list_all is_finished (transitioned w now).instances) n j) i.file_delete
@@ -177,7 +132,7 @@ output_is w now n i j here there =
 
     is : j ≡ cond (is_done_assimilate (before w now).assimilate)
         (with_output_readied (before w now).canonical (list_all is_finished (before w now).instances) n (as_ended w now i)) (as_ended w now i)
-    is = some_same j _ (sym there ∙ readied_at (before w now) n (as_ended w now i) (settled_at w now n i here))
+    is = let both = sym there ∙ readied_at (before w now) n (as_ended w now i) (settled_at w now n i here) in cc
 
     file_by : (b : Bool)
         → (cond b (with_output_readied (before w now).canonical (list_all is_finished (before w now).instances) n (as_ended w now i)) (as_ended w now i)).file_delete

@@ -1,11 +1,11 @@
 -- What the transitioner has made, it has no cause to make again.
-use Rattle.std.proofs.Common.{◌≡◌, ℕ, zero, suc, ◌+◌, ◌-◌, ◌==◌, nat_lt, min, Bool, true, false, not, cond, ◌&&◌, ◌||◌, ◌++◌, length, filter, replicate, refl, sym, ap, subst, ◌∙◌, eqb-true, arith}
+use Rattle.std.proofs.Common.{◌≡◌, ℕ, zero, suc, ◌+◌, ◌-◌, ◌==◌, nat_lt, min, Bool, true, false, not, cond, ◌&&◌, ◌++◌, length, filter, replicate, refl, sym, ap, subst, ◌∙◌, arith}
 use Rattle.std.proofs.lemmas.List.{append-nil, length-append, length-replicate}
 use Rattle.std.proofs.lemmas.List.Elements.{filter-append}
 use Rattle.std.proofs.lemmas.Bool.Decides.{nat_tests}
 use Rattle.std.specs.List.{list_all}
-use Rattle.wu_core.specs.Mask.{bit_value, error_mask_code}
 use Rattle.wu_core.specs.declared.mask.ErrorMask.{ErrorMask}
+use Rattle.wu_core.specs.declared.states.FileDelete.{FileDelete}
 use Rattle.wu_core.specs.declared.workunit.Instance.{Instance}
 use Rattle.wu_core.specs.declared.workunit.Workunit.{Workunit}
 use Rattle.wu_core.specs.Workunit.{fresh}
@@ -13,7 +13,7 @@ use Rattle.wu_rules.specs.Instances.{is_unsent, is_in_progress, is_error, is_kep
 use Rattle.wu_rules.specs.Counts.{unsent, in_progress, errors, kept, viable, has_new_success, is_clear, is_undecided}
 use Rattle.wu_rules.specs.Validation.{is_to_validate}
 use Rattle.wu_rules.specs.Transition.{has_too_many_errors, is_open, needed, allowed, added, is_idle, has_too_many_total, is_finished, with_output_readied, with_files_readied, readied, ended, settled, extended}
-use Rattle.wu_rules_laws.proofs.Changed.{or_right, or_false, and_false, cond_keeps, any-placed, count-placed, length-placed, count-replicate-all, count-replicate-none}
+use Rattle.wu_rules_laws.proofs.Changed.{or_right, or_false, and_false, any-placed, count-placed, length-placed, count-replicate-all, count-replicate-none}
 
 -- ---- nothing is planned for a workunit that is not undecided
 
@@ -26,43 +26,15 @@ none_added w e = ap (λ b. cond (b && not (nat_lt w.params.max_error_results (er
 pub no_total_planned : (w : Workunit) → is_undecided w ≡ false → has_too_many_total w ≡ false
 no_total_planned w e = ap (λ b. (b && not (nat_lt w.params.max_error_results (errors w))) && nat_lt 0 (needed w) && (allowed w == 0) && is_idle w) e
 
--- ---- naming files for deletion changes no plan
-
-pub errors_planned-readied : (w : Workunit) → has_too_many_errors (readied w) ≡ has_too_many_errors w
-errors_planned-readied w =
-    let e : errors (with_files_readied w) ≡ errors w = count-placed is_error is_error (with_output_readied w.canonical (list_all is_finished w.instances)) (λ n x. refl) 0 w.instances in
-    cond_keeps has_too_many_errors (is_done_assimilate w.assimilate) (with_files_readied w) w (ap (λ k. is_undecided w && nat_lt w.params.max_error_results k) e)
-
 -- a plan of numbers
 abbrev plan_added : Bool → (max_errors errors target unsent in_progress kept max_total length : ℕ) → ℕ
 plan_added b m e t u p k x l = cond (b && not (nat_lt m e)) (min (t - (u + p + k)) (x - l)) 0
 
-abbrev plan_total : Bool → (max_errors errors target unsent in_progress kept max_total length : ℕ) → Bool → Bool
-plan_total b m e t u p k x l v = (b && not (nat_lt m e)) && nat_lt 0 (t - (u + p + k)) && (x - l == 0) && ((u == 0) && (p == 0) && not v)
+-- ---- naming files for deletion changes no count
 
-pub added-readied : (w : Workunit) → added (readied w) ≡ added w
-added-readied w =
-    let f = with_output_readied w.canonical (list_all is_finished w.instances) in
-    let e : errors (with_files_readied w) ≡ errors w = count-placed is_error is_error f (λ n x. refl) 0 w.instances in
-    let u : unsent (with_files_readied w) ≡ unsent w = count-placed is_unsent is_unsent f (λ n x. refl) 0 w.instances in
-    let p : in_progress (with_files_readied w) ≡ in_progress w = count-placed is_in_progress is_in_progress f (λ n x. refl) 0 w.instances in
-    let k : kept (with_files_readied w) ≡ kept w = count-placed is_kept is_kept f (λ n x. refl) 0 w.instances in
-    let l = length-placed f 0 w.instances in
-    let same : added (with_files_readied w) ≡ added w = rw (e, u, p, k, l) refl in
-    cond_keeps added (is_done_assimilate w.assimilate) (with_files_readied w) w same
-
-pub total_planned-readied : (w : Workunit) → has_too_many_total (readied w) ≡ has_too_many_total w
-total_planned-readied w =
-    let f = with_output_readied w.canonical (list_all is_finished w.instances) in
-    let e : errors (with_files_readied w) ≡ errors w = count-placed is_error is_error f (λ n x. refl) 0 w.instances in
-    let u : unsent (with_files_readied w) ≡ unsent w = count-placed is_unsent is_unsent f (λ n x. refl) 0 w.instances in
-    let p : in_progress (with_files_readied w) ≡ in_progress w = count-placed is_in_progress is_in_progress f (λ n x. refl) 0 w.instances in
-    let k : kept (with_files_readied w) ≡ kept w = count-placed is_kept is_kept f (λ n x. refl) 0 w.instances in
-    let s : length (viable (with_files_readied w)) ≡ length (viable w) = count-placed is_viable is_viable f (λ n x. refl) 0 w.instances in
-    let a : has_new_success (with_files_readied w) ≡ has_new_success w = any-placed is_new is_new f (λ n x. refl) 0 w.instances in
-    let l = length-placed f 0 w.instances in
-    let same : has_too_many_total (with_files_readied w) ≡ has_too_many_total w = rw (e, u, p, k, s, a, l) refl in
-    cond_keeps has_too_many_total (is_done_assimilate w.assimilate) (with_files_readied w) w same
+pub count-readied : (p : Instance → Bool) → ((x : Instance) (f : FileDelete) → p (record x { file_delete = f }) ≡ p x) → (w : Workunit)
+    → length (filter p (with_files_readied w).instances) ≡ length (filter p w.instances)
+count-readied p same w = count-placed p p (with_output_readied w.canonical (list_all is_finished w.instances)) (λ n x. same x _) 0 w.instances
 
 -- ---- the new instances
 
@@ -87,11 +59,7 @@ errors_planned-grown w n = ap (λ k. is_undecided w && nat_lt w.params.max_error
 
 -- what is added is wanted or allowed no more
 added-more : (b : Bool) (m e t u p k x l n : ℕ) → n ≡ plan_added b m e t u p k x l → plan_added b m e t (u + n) p k x (l + n) ≡ 0
-added-more b m e t u p k x l n made = by_case (b && not (nat_lt m e)) made
-  where
-    by_case : (c : Bool) → n ≡ cond c (min (t - (u + p + k)) (x - l)) 0 → cond c (min (t - (u + n + p + k)) (x - (l + n))) 0 ≡ 0
-    by_case true h = omega arith
-    by_case false h = refl
+added-more b m e t u p k x l n made = grind (arith, nat_tests)
 
 pub added-grown : (w : Workunit) (n : ℕ) → n ≡ added w → added (grown w n) ≡ 0
 added-grown w n made =
@@ -114,42 +82,12 @@ total_planned-grown w (suc n) h =
 
 -- ---- the new bits
 
-pub no_bit : (b : Bool) → bit_value b ≡ 0 → b ≡ false
-no_bit true e = absurd (omega arith)
-no_bit false e = refl
-
 -- a mask that is clear after new bits has none of them
 pub clear_of : (m : ErrorMask) → is_clear m ≡ true → (m.too_many_error_results ≡ false) × (m.too_many_total_results ≡ false)
-clear_of m e =
-    let none : error_mask_code m ≡ 0 = eqb-true (error_mask_code m) 0 e in
-    let a : bit_value m.too_many_error_results ≡ 0 = omega arith in
-    let b : bit_value m.too_many_total_results ≡ 0 = omega arith in
-    (no_bit m.too_many_error_results a, no_bit m.too_many_total_results b)
-
-abbrev extended_by : Workunit → Bool → Bool → ℕ → Workunit
-extended_by w a b n = record w {
-  error_mask = record w.error_mask {
-    too_many_error_results = w.error_mask.too_many_error_results || a;
-    too_many_total_results = w.error_mask.too_many_total_results || b;
-  };
-  instances = w.instances ++ replicate n fresh;
-}
-
-abbrev flagged : Workunit → Bool → Bool → ℕ → Workunit
-flagged w a b n = record w {
-  error_mask = record w.error_mask { too_many_error_results = a; too_many_total_results = b };
-  instances = w.instances ++ replicate n fresh;
-}
-
-extended_by-none : (w : Workunit) (n : ℕ) → extended_by w false false n ≡ grown w n
-extended_by-none w n =
-    ap (λ a. flagged w a (w.error_mask.too_many_total_results || false) n) (or_false w.error_mask.too_many_error_results)
-    ∙ ap (λ b. flagged w w.error_mask.too_many_error_results b n) (or_false w.error_mask.too_many_total_results)
+clear_of m e = grind (arith, nat_tests)
 
 pub extended-unflagged : (w : Workunit) → has_too_many_errors w ≡ false → has_too_many_total w ≡ false → extended w ≡ grown w (added w)
-extended-unflagged w e t =
-    ap (λ a. extended_by w a (has_too_many_total w) (added w)) e
-    ∙ (ap (λ b. extended_by w false b (added w)) t ∙ extended_by-none w (added w))
+extended-unflagged w e t = rw (e, t, or_false w.error_mask.too_many_error_results, or_false w.error_mask.too_many_total_results) refl
 
 -- with no new bit and no new instance nothing changes
 pub extended-untouched : (w : Workunit) → has_too_many_errors w ≡ false → added w ≡ 0 → has_too_many_total w ≡ false → extended w ≡ w
@@ -166,11 +104,20 @@ quiet_decided : (w : Workunit) → is_undecided w ≡ false → Quiet w
 quiet_decided w e = record { errors = no_errors_planned w e; added = none_added w e; total = no_total_planned w e }
 
 quiet-readied : (w : Workunit) → Quiet w → Quiet (readied w)
-quiet-readied w q = record {
-  errors = errors_planned-readied w ∙ q.errors;
-  added = added-readied w ∙ q.added;
-  total = total_planned-readied w ∙ q.total;
-}
+quiet-readied w q = by (is_done_assimilate w.assimilate)
+  where
+    by : (b : Bool) → Quiet (cond b (with_files_readied w) w)
+    by false = q
+    by true =
+        let f = with_output_readied w.canonical (list_all is_finished w.instances) in
+        let e : errors (with_files_readied w) ≡ errors w = count-readied is_error (λ x f. refl) w in
+        let u : unsent (with_files_readied w) ≡ unsent w = count-readied is_unsent (λ x f. refl) w in
+        let p : in_progress (with_files_readied w) ≡ in_progress w = count-readied is_in_progress (λ x f. refl) w in
+        let k : kept (with_files_readied w) ≡ kept w = count-readied is_kept (λ x f. refl) w in
+        let s : length (viable (with_files_readied w)) ≡ length (viable w) = count-readied is_viable (λ x f. refl) w in
+        let a : has_new_success (with_files_readied w) ≡ has_new_success w = any-placed is_new is_new f (λ n x. refl) 0 w.instances in
+        let l = length-placed f 0 w.instances in
+        record { errors = rw e q.errors; added = rw (e, u, p, k, l) q.added; total = rw (e, u, p, k, s, a, l) q.total }
 
 pub quiet-transitioned : (w : Workunit) → Quiet (readied (settled (extended w)))
 quiet-transitioned w = quiet-readied (settled (extended w)) (by_case (is_clear (extended w).error_mask) refl)

@@ -1,5 +1,5 @@
 -- What has to happen happens: what is late is timed out, what has its quorum is decided, and what comes late is judged.
-use Rattle.std.proofs.Common.{◌≡◌, ℕ, zero, suc, ◌≤◌, nat_le, nat_lt, Bool, true, false, cond, ◌&&◌, List, [], ◌∷◌, length, slice_get, Option, Some, None, is_none, IfSome, refl, sym, ap, subst, ◌∙◌, le-leb, arith}
+use Rattle.std.proofs.Common.{◌≡◌, ℕ, zero, suc, ◌≤◌, nat_lt, Bool, true, false, ◌&&◌, List, [], ◌∷◌, length, slice_get, Option, Some, None, is_none, IfSome, refl, sym, ap, subst, ◌∙◌, arith}
 use Rattle.std.proofs.lemmas.Bool.Decides.{nat_tests}
 use Rattle.std.specs.List.{list_any}
 use Rattle.std.specs.Option.{option_map_or}
@@ -26,8 +26,7 @@ fails_at p (y ∷ ys) (suc n) x none e = fails_at p ys n x (or_right (p y) (list
 -- ---- what is late is timed out
 
 in_time : (now : ℕ) (o : Option ℕ) → option_map_or (λ deadline. nat_lt deadline now) o false ≡ false → IfSome o (λ deadline. now ≤ deadline)
-in_time now None e = tt
-in_time now (Some deadline) e = grind (arith, nat_tests)
+in_time now o e = grind (arith, nat_tests)
 
 pub times_out : (w : Workunit) (now n : ℕ) (i : Instance) → slice_get (transitioned w now).instances n ≡ Some i
     → i.server_state ≡ server.InProgress → IfSome i.deadline (λ deadline. now ≤ deadline)
@@ -37,24 +36,12 @@ times_out w now n i here running =
 
 -- ---- what has its quorum is decided
 
-no_canonical : (o : Option ℕ) (clear : Bool) → (is_none o && clear) ≡ true → o ≡ None
-no_canonical None clear e = refl
-no_canonical (Some c) clear e = cc
-
-no_error : (o : Option ℕ) (clear : Bool) → (is_none o && clear) ≡ true → clear ≡ true
-no_error None clear e = e
-no_error (Some c) clear e = cc
-
-looks : (clear new none enough : Bool) → clear ≡ true → new ≡ true → enough ≡ true → (clear && new && cond none enough true) ≡ true
-looks clear new true enough e f g = cc
-looks clear new false enough e f g = cc
-
 concludes_quorum : (w : Workunit) (c : ℕ) → is_undecided w ≡ true → has_new_success w ≡ true → w.params.min_quorum ≤ length (viable w) → consensus w ≡ Some c
     → (concluded w).canonical ≡ Some c
 concludes_quorum w c undecided new enough agreed =
-    let clear = no_error w.canonical (is_clear w.error_mask) undecided in
-    let looked = looks (is_clear w.error_mask) (has_new_success w) (is_none w.canonical) _ clear new (le-leb w.params.min_quorum (length (viable w)) enough) in
-    decides w looked (no_canonical w.canonical (is_clear w.error_mask) undecided) ∙ agreed
+    let none : w.canonical ≡ None = grind arith in
+    let looked : is_to_validate w ≡ true = grind (arith, nat_tests) in
+    decides w looked none ∙ agreed
 
 pub decides_quorum : (w : Workunit) (c : ℕ) → is_undecided w ≡ true → has_new_success (checked w) ≡ true → w.params.min_quorum ≤ length (viable (checked w))
     → consensus (checked w) ≡ Some c → (validated w).canonical ≡ Some c
@@ -69,14 +56,7 @@ decides_quorum w c undecided new enough agreed =
 
 -- where the validator does not look after the decision, nothing is new
 nothing_new : (w : Workunit) (c : ℕ) → w.canonical ≡ Some c → is_clear w.error_mask ≡ true → is_to_validate w ≡ false → has_new_success w ≡ false
-nothing_new w c some clear e = by_case (is_clear w.error_mask) (has_new_success w) w.canonical clear some e
-  where
-    by_case : (clear new : Bool) (o : Option ℕ) → clear ≡ true → o ≡ Some c
-        → (clear && new && cond (is_none o) (nat_le w.params.min_quorum (length (viable w))) true) ≡ false → new ≡ false
-    by_case true true (Some c) e f g = cc
-    by_case true true None e f g = cc
-    by_case true false o e f g = refl
-    by_case false new o e f g = cc
+nothing_new w c some clear e = grind arith
 
 none_new_after : (w : Workunit) (c : ℕ) → w.canonical ≡ Some c → is_clear w.error_mask ≡ true → has_new_success (concluded w) ≡ false
 none_new_after w c some clear = by_case (is_to_validate w) refl

@@ -1,27 +1,27 @@
 -- What becomes of empty outputs: they are refused, and no such output is chosen, made VALID or granted.
-use Rattle.std.proofs.Common.{◌≡◌, ◌≢◌, ℕ, Bool, true, false, cond, ◌&&◌, List, [], ◌∷◌, IfSome, slice_get, Option, Some, None, option_map, is_none, refl, sym, ap, ◌∙◌}
+use Rattle.std.proofs.Common.{◌≡◌, ◌≢◌, ℕ, Bool, true, false, ◌&&◌, List, [], ◌∷◌, IfSome, Option, Some, None, option_map, is_none, refl, sym, ap, ◌∙◌, arith}
 use Rattle.std.proofs.lemmas.List.Elements.{All-weaker}
+use Rattle.std.specs.List.{slice_get}
 use Rattle.wu_core.specs.declared.workunit.Grant.{Grant}
 use Rattle.wu_core.specs.declared.workunit.Instance.{Instance}
 use Rattle.wu_core.specs.declared.workunit.Workunit.{Workunit}
 use Rattle.wu_core.specs.declared.states.Outcome.TheVariants as outcome
 use Rattle.wu_core.specs.declared.states.ValidateState.{ValidateState}
 use Rattle.wu_core.specs.declared.states.ValidateState.TheVariants as validate
-use Rattle.wu_rules.specs.Instances.{is_init_verdict, is_open_verdict, is_over, is_over_state, is_success, is_success_outcome, is_viable}
-use Rattle.wu_rules.specs.Validation.{checked, grants, is_empty, is_judged, is_judged_where, is_to_validate, refused, refused_where, validated}
-use Rattle.wu_rules.proofs.Refusing.{left_not_empty, refused_not_judged}
+use Rattle.wu_rules.specs.Instances.{is_open_verdict, is_over, is_viable}
+use Rattle.wu_rules.specs.Validation.{checked, grants, is_empty, is_judged, is_judged_where, is_to_validate, refused, validated}
+use Rattle.wu_rules.proofs.Refusing.{refused_not_judged}
 use Rattle.wu_rules_laws.specs.Laws.{IsRefused, IsRightGrantIn, RefusesEmpty, verdict_at}
 use Rattle.wu_rules_laws.proofs.Changed.{and_false}
 use Rattle.wu_rules_laws.proofs.Checking.{checked_canonical, checked_in, concluded_unlooked, kept_in, refused_in, stands_checked, validated_is, validated_unlooked}
 use Rattle.wu_rules_laws.proofs.Choosing.{chooses}
 use Rattle.wu_rules_laws.proofs.Granting.{grants_right}
 use Rattle.wu_rules_laws.proofs.Judged.{over_at, refused_before, verdict_at_stays}
-use Rattle.wu_rules_laws.proofs.Spent.{and_from, and_left}
+use Rattle.wu_rules_laws.proofs.Spent.{and_from}
 
 -- what is judged is over
 judged_over : (undecided : Bool) (i : Instance) → is_judged_where undecided i ≡ true → is_over i ≡ true
-judged_over true i e = and_left (is_over_state i.server_state) (is_success_outcome i.outcome) (and_left (is_success i) (is_open_verdict i.validate_state) e)
-judged_over false i e = and_left (is_over_state i.server_state) (is_success_outcome i.outcome) (and_left (is_success i) (is_init_verdict i.validate_state) e)
+judged_over undecided i e = grind arith
 
 -- an output that is there is not empty
 has_output : (output : List ℕ) → output ≢ [] → is_empty output ≡ false
@@ -30,10 +30,7 @@ has_output (byte ∷ bytes) there = refl
 
 -- an open verdict is not VALID
 open_verdict : (v : ValidateState) → is_open_verdict v ≡ true → Some v ≢ Some validate.Valid
-open_verdict v opened e =
-    let same : v ≡ validate.Valid = cc in
-    let both : false ≡ true = sym (ap is_open_verdict same) ∙ opened in
-    cc
+open_verdict v opened e = grind arith
 
 -- the verdict of an instance that may be there
 abbrev verdict_in : Option Instance → Option ValidateState
@@ -59,9 +56,7 @@ module _ (w : Workunit) where
 
   -- what is empty is not viable among what is left
   left_undecided : (i : Instance) → is_to_validate w ≡ true → w.canonical ≡ None → i.output ≡ [] → is_viable (checked_in w i) ≡ false
-  left_undecided i looked undecided none =
-      ap (λ b. is_viable (cond b (refused_where (is_none w.canonical) i) i)) looked
-      ∙ (ap (λ o. is_viable (refused_where (is_none o) i)) undecided ∙ left_not_empty true i (ap is_empty none))
+  left_undecided i looked undecided none = grind arith
 
   not_chosen : (n : ℕ) (i : Instance) → w.canonical ≡ None → (validated w).canonical ≡ Some n
       → slice_get w.instances n ≡ Some i → i.output ≢ []

@@ -1,5 +1,6 @@
 -- Each rule rewrites a consistent workunit.
-use Rattle.std.proofs.Common.{◌≡◌, ◌≢◌, ℕ, zero, suc, ◌+◌, ◌<◌, ◌==◌, Bool, true, false, not, cond, ◌&&◌, ◌||◌, List, [], ◌∷◌, map, length, slice_get, slice_set, Option, Some, None, IfSome, is_none, is_some, option_to_list, refl, sym, ap, subst, ◌∙◌, bytes_eq, eqb-true, arith}
+use Rattle.std.proofs.Common.{◌≡◌, ◌≢◌, ℕ, zero, suc, ◌+◌, ◌<◌, Bool, true, false, not, cond, ◌&&◌, ◌||◌, List, [], ◌∷◌, map, length, slice_get, slice_set, Option, Some, None, IfSome, is_none, option_to_list, refl, sym, ap, subst, ◌∙◌, bytes_eq, arith}
+use Rattle.std.proofs.lemmas.Bool.Decides.{nat_tests}
 use Rattle.std.proofs.lemmas.List.Elements.{All-from_recursion, All-weaker, recursion_from_All}
 use Rattle.std.proofs.lemmas.Option.{get_or_from_slice_get, slice_get_within}
 use Rattle.std.proofs.lemmas.Slice.Eq.{bytes_eq-Decides}
@@ -13,35 +14,30 @@ use Rattle.wu_core.specs.declared.workunit.Instance.{Instance}
 use Rattle.wu_core.specs.declared.workunit.Workunit.{Workunit}
 use Rattle.wu_core.specs.declared.states.Assimilate.{Assimilate}
 use Rattle.wu_core.specs.declared.states.Assimilate.TheVariants as assimilate
-use Rattle.wu_core.specs.declared.states.Outcome.{Outcome}
 use Rattle.wu_core.specs.declared.states.Outcome.TheVariants as outcome
-use Rattle.wu_core.specs.declared.states.ServerState.{ServerState}
-use Rattle.wu_core.specs.declared.states.ServerState.TheVariants as server
 use Rattle.wu_core.specs.declared.states.Status.{Status}
 use Rattle.wu_core.specs.declared.states.ValidateState.TheVariants as validate
 use Rattle.wu_rules.specs.Assimilation.{archived, archived_row, assimilated, emptied}
 use Rattle.wu_rules.specs.Cancelling.{cancelled}
 use Rattle.wu_rules.specs.Counts.{consensus, has_active, has_new_success, is_clear, is_undecided}
-use Rattle.wu_rules.specs.Instances.{is_done_assimilate, is_new, is_over_state, is_ready_assimilate, is_success, is_success_outcome, is_unsent, is_unsent_state, is_viable, readied_assimilate}
-use Rattle.wu_rules.specs.Reporting.{is_no_reply, is_sent_after, report_verdict_in, report_verdict_of, reported_as, reported_in}
-use Rattle.wu_rules.specs.Sending.{is_bound_elsewhere, is_of, send_verdict_in, send_verdict_of, sent_as, sent_in, sent_to}
+use Rattle.wu_rules.specs.Instances.{is_done_assimilate, is_new, is_ready_assimilate, is_success, is_unsent, readied_assimilate}
+use Rattle.wu_rules.specs.Reporting.{report_verdict_in, report_verdict_of, reported_as, reported_in}
+use Rattle.wu_rules.specs.Sending.{is_of, send_verdict_in, send_verdict_of, sent_as, sent_in, sent_to}
 use Rattle.wu_rules.specs.Transition.{transitioned}
-use Rattle.wu_rules.specs.Validation.{agreed_on, checked, concluded, credited, decided, granted_by, grants, grants_by, grants_decided, is_deleted_at, is_judged, is_to_validate, judged_by, judged_late_by, left_open, output_at, validated, validated_by, verdict}
-use Rattle.wu_rules.specs.declared.verdicts.ReportVerdict.{ReportVerdict}
+use Rattle.wu_rules.specs.Validation.{agreed_on, checked, concluded, credited, grants, grants_by, is_judged, is_judged_where, is_to_validate, judged_by, judged_late_by, left_open, output_at, validated, verdict}
 use Rattle.wu_rules.specs.declared.verdicts.ReportVerdict.TheVariants as report
-use Rattle.wu_rules.specs.declared.verdicts.SendVerdict.{SendVerdict}
 use Rattle.wu_rules.specs.declared.verdicts.SendVerdict.TheVariants as send
-use Rattle.wu_rules.proofs.Keeping.{new_is_viable}
 use Rattle.wu_rules_laws.specs.Consistent.{RulesRewrite}
 use Rattle.wu_rules.specs.Consistent.{ArchivesTheNew, GrantsToTheNew, IsConsistent, IsPossible, IsRowOf, Rewrites, instance_host, is_done, is_valid_at, is_valid_verdict, one_if}
 use Rattle.wu_rules_laws.specs.Laws.{IsChosen, IsRightGrantIn}
-use Rattle.wu_rules_laws.proofs.Becoming.{AllBecome, Becomes, all_become, all_become-set, all_possible, becomes_judged_by, becomes_judged_late_by, becomes_reported, becomes_too_late, final_at, init_not_valid, is_valid, none_made, not_over_not_refused, possible_sent, same_host, unsent_no_success, unsent_not_over, valid_at}
+use Rattle.wu_rules_laws.proofs.Becoming.{AllBecome, Becomes, all_become, all_become-set, all_possible, becomes_judged_by, becomes_judged_late_by, becomes_reported, becomes_too_late, final_at, none_made, possible_sent, same_host, unsent_init, valid_at}
 use Rattle.wu_rules_laws.proofs.Changed.{and_false, any_false-map}
-use Rattle.wu_rules_laws.proofs.Following.{Awaits, Follows, Quietly, awaits_cancelled, awaits_checked, awaits_emptied, awaits_left_open, awaits_same, awaits_set, awaits_transitioned, follows, follows_sent, given_up_alone, quietly_cancelled, quietly_checked, quietly_emptied, quietly_left_open, quietly_same, quietly_transitioned, quietly_unchanged, quietly_with, ready_done, unsent_same, verdicts_kept, kept_then}
+use Rattle.wu_rules_laws.proofs.Checking.{concluded_has}
+use Rattle.wu_rules_laws.proofs.Following.{Awaits, Quietly, awaits_cancelled, awaits_checked, awaits_emptied, awaits_left_open, awaits_same, awaits_set, awaits_transitioned, follows_sent, given_up_alone, quietly_cancelled, quietly_checked, quietly_emptied, quietly_left_open, quietly_same, quietly_to, quietly_transitioned, quietly_unchanged, ready_done, unsent_same, verdicts_kept, kept_then}
 use Rattle.wu_rules_laws.proofs.Granted.{grants_new}
 use Rattle.wu_rules_laws.proofs.Granting.{chosen, credits_right}
 use Rattle.wu_rules_laws.proofs.Hosted.{apart_same, hosted_set, none_hosted}
-use Rattle.wu_rules_laws.proofs.Kept.{formed_checked, formed_concluded, formed_sent_to, keeps_formed, with_instance_formed}
+use Rattle.wu_rules_laws.proofs.Kept.{formed_checked, formed_concluded, keeps_formed, reported_has}
 use Rattle.wu_rules_laws.proofs.Settled.{unsent_judged}
 use Rattle.wu_rules_laws.proofs.Spent.{and_from, and_left, and_right}
 
@@ -52,20 +48,13 @@ abbrev IsRight : Instance → Type 0
 IsRight i = (is_success i ≡ true) × (i.validate_state ≡ validate.Valid)
 
 -- of what is possible, only a success is VALID
-valid_success : (i : Instance) → IsPossible i → is_valid_verdict i.validate_state ≡ true → is_success i ≡ true
-valid_success i possible e = by_case (is_success i) refl
-  where
-    other : i.outcome ≢ outcome.ValidateError
-    other f = let both : true ≡ false = sym e ∙ ap is_valid_verdict (possible.refused f).1 in cc
-
-    by_case : (b : Bool) → b ≡ is_success i → b ≡ true
-    by_case true f = refl
-    by_case false f = let both : true ≡ false = sym e ∙ init_not_valid i.validate_state (possible.judged (sym f) other) in cc
+valid_right : (i : Instance) → IsPossible i → is_valid_verdict i.validate_state ≡ true → IsRight i
+valid_right i possible e = grind arith
 
 -- of possible instances the one that is VALID is right
 right_at : (xs : List Instance) (n : ℕ) → AllByRecursion IsPossible xs → is_valid_at xs n ≡ true → IfSome (slice_get xs n) IsRight
 right_at [] n all e = tt
-right_at (x ∷ xs) zero all e = (valid_success x all.0 e, is_valid x.validate_state e)
+right_at (x ∷ xs) zero all e = valid_right x all.0 e
 right_at (x ∷ xs) (suc n) all e = right_at xs n all.1 e
 
 -- the one that is there and right is VALID
@@ -92,9 +81,7 @@ canonical_right v possible valid = by_case v.canonical refl
 
 -- what is as it was is not new
 none_new : (b c : Bool) → b ≡ c → 0 ≡ one_if (b && not c)
-none_new true true e = refl
-none_new true false e = cc
-none_new false c e = refl
+none_new b c e = grind arith
 
 -- where nothing is made VALID there is no grant
 grants_none : (w v : Workunit) → ((n : ℕ) → is_valid_at v.instances n ≡ is_valid_at w.instances n) → GrantsToTheNew w v []
@@ -116,44 +103,37 @@ awaits_of w h = record { nothing_unsent = h.nothing_unsent; undecided = h.undeci
 
 -- what is DONE is not undecided
 done_not_undecided : (w : Workunit) → IsConsistent w → is_done w ≡ true → is_undecided w ≡ false
-done_not_undecided w h done = by_case (is_undecided w) refl
-  where
-    by_case : (b : Bool) → b ≡ is_undecided w → b ≡ false
-    by_case false e = refl
-    by_case true e =
-        let clear = and_right (is_none w.canonical) (is_clear w.error_mask) (sym e) in
-        let none = and_left (is_none w.canonical) (is_clear w.error_mask) (sym e) in
-        let init = h.undecided (and_from (is_clear w.error_mask) (is_none w.canonical) clear none) in
-        sym done ∙ ap is_done_assimilate init
+done_not_undecided w h done = grind arith
 
 -- a rule that makes nothing VALID rewrites
 rewrites_quietly : (w v : Workunit) → IsWorkunit w → IsConsistent w → IsWorkunit v → Quietly w v → Awaits v → Rewrites w v [] []
 rewrites_quietly w v formed h made q a =
     let possible : AllByRecursion IsPossible v.instances = q.instances.possible (recursion_from_All IsPossible w.instances h.instances) in
+    let canonical : v.canonical ≡ w.canonical = ap (λ f. f.3) q.rest in
     record {
-      number = q.number;
-      name = q.name;
-      credit = q.credit;
+      number = ap (λ f. f.0) q.rest;
+      name = ap (λ f. f.1) q.rest;
+      credit = ap (λ f. f.2) q.rest;
       formed = made;
       consistent = record {
         instances = All-from_recursion IsPossible v.instances possible;
         deletable = q.deletable h.deletable;
-        sendable = q.sendable ∙ h.sendable;
-        decidable = q.decidable ∙ h.decidable;
-        given_up_or_decided = λ e. ap is_none q.canonical ∙ given_up_alone w v q h.given_up_or_decided e;
+        sendable = ap (λ f. f.4) q.rest ∙ h.sendable;
+        decidable = ap (λ f. f.5) q.rest ∙ h.decidable;
+        given_up_or_decided = λ e. ap is_none canonical ∙ given_up_alone w v q h.given_up_or_decided e;
         nothing_unsent = a.nothing_unsent;
         undecided = a.undecided;
-        canonical = canonical_right v possible (λ n e. q.instances.valid n ∙ canonical_valid w formed h n (sym q.canonical ∙ e));
-        classless = λ none. q.class (h.classless (none_hosted w.instances v.instances q.instances.hosts none));
+        canonical = canonical_right v possible (λ n e. q.instances.valid n ∙ canonical_valid w formed h n (sym canonical ∙ e));
+        classless = λ none. q.class none (h.classless (none_hosted w.instances v.instances q.instances.hosts none));
       };
       valid = λ n e. (let now_valid : is_valid_at v.instances n ≡ true = q.instances.valid n ∙ e in (now_valid, q.instances.host n now_valid));
-      canonical = λ n e. q.canonical ∙ e;
+      canonical = λ n e. canonical ∙ e;
       verdicts = verdicts_kept w v q.instances.final;
       hosts = q.instances.hosts;
       apart = q.instances.apart;
       given_up = λ e. ap is_clear (q.mask (and_false (is_none w.canonical) (is_clear w.error_mask) e)) ∙ e;
       done = λ e. q.done ∙ e;
-      stays = λ e. (q.mask (done_not_undecided w h e), q.moment);
+      stays = λ e. (q.mask (done_not_undecided w h e), ap (λ f. f.6) q.rest);
       granted = grants_none w v q.instances.valid;
       archives = archives_none w v q.done;
     }
@@ -168,8 +148,7 @@ pub canonical_stays : (w v : Workunit) (gs : List Grant) (rows : List Archived) 
 canonical_stays w v gs rows h rewrites done = by_case w.canonical refl
   where
     none : (o : Option ℕ) → is_none o ≡ true → o ≡ None
-    none None e = refl
-    none (Some n) e = cc
+    none o e = grind arith
 
     by_case : (o : Option ℕ) → w.canonical ≡ o → v.canonical ≡ o
     by_case (Some n) e = rewrites.canonical n e
@@ -181,9 +160,12 @@ canonical_stays w v gs rows h rewrites done = by_case w.canonical refl
 
 -- what is ready is not DONE
 ready_not_done : (a : Assimilate) → is_ready_assimilate a ≡ true → is_done_assimilate a ≡ false
-ready_not_done assimilate.Init e = refl
-ready_not_done assimilate.Ready e = refl
-ready_not_done assimilate.Done e = sym e
+ready_not_done a e = grind arith
+
+-- what is ready stays consistent when it is DONE
+done_consistent : (w : Workunit) (now : ℕ) → is_ready_assimilate w.assimilate ≡ true → IsConsistent w
+    → IsConsistent (record w { assimilate = assimilate.Done; done_at = Some now })
+done_consistent w now e h = grind arith
 
 -- the assimilator rewrites, with an archived row where it makes the workunit DONE
 rewrites_assimilated : (w : Workunit) (now : ℕ) → IsWorkunit w → IsConsistent w → Rewrites w (assimilated w now) [] (option_to_list (archived w now))
@@ -200,17 +182,7 @@ rewrites_assimilated w now formed h = by_case (is_ready_assimilate w.assimilate)
       name = refl;
       credit = refl;
       formed = made;
-      consistent = record {
-        instances = h.instances;
-        deletable = h.deletable;
-        sendable = h.sendable;
-        decidable = h.decidable;
-        given_up_or_decided = h.given_up_or_decided;
-        nothing_unsent = h.nothing_unsent;
-        undecided = λ f. (let both : true ≡ false = e ∙ ap is_ready_assimilate (h.undecided f) in cc);
-        canonical = h.canonical;
-        classless = h.classless;
-      };
+      consistent = done_consistent w now (sym e) h;
       valid = λ n f. (f, refl);
       canonical = λ n f. f;
       verdicts = verdicts_kept w v (λ n u f final. f);
@@ -234,86 +206,21 @@ rewrites_assimilated w now formed h = by_case (is_ready_assimilate w.assimilate)
 pub holds_at : (P : Instance → Type 0) (xs : List Instance) (n : ℕ) (i : Instance) → All P xs → slice_get xs n ≡ Some i → P i
 holds_at P xs n i all e = subst P (get_or_from_slice_get xs n i i e) (all n i (slice_get_within xs n i e))
 
--- a change of one instance that makes nothing VALID, and this one not unsent, rewrites
-rewrites_set : (w : Workunit) (n : ℕ) (j : Instance) → IsWorkunit w → IsConsistent w → Follows w.instances (slice_set w.instances n j) → is_unsent j ≡ false
-    → IsWorkunit (with_instance_set w n j) → Rewrites w (with_instance_set w n j) [] []
-rewrites_set w n j formed h follow sent made =
-    rewrites_quietly w (with_instance_set w n j) formed h made (quietly_with w (slice_set w.instances n j) follow) (awaits_set w n j sent (awaits_of w h))
-
 -- what is sent was unsent
 pub was_unsent : (w : Workunit) (host : List ℕ) (class : ℕ) (i : Instance) → send_verdict_of w host class i ≡ send.Applied → is_unsent i ≡ true
-was_unsent w host class i e = by_case (is_unsent i) e
-  where
-    by_case : (b : Bool) → cond (not b) send.NotUnsent (cond (list_any (is_of host) w.instances) send.SameHost (cond (is_bound_elsewhere w class) send.Class send.Applied)) ≡ send.Applied → b ≡ true
-    by_case true f = refl
-    by_case false f = cc
+was_unsent w host class i e = grind arith
 
 -- and the host had none of the instances
 pub had_none : (w : Workunit) (host : List ℕ) (class : ℕ) (i : Instance) → send_verdict_of w host class i ≡ send.Applied → list_any (is_of host) w.instances ≡ false
-had_none w host class i e = by_case (is_unsent i) (list_any (is_of host) w.instances) e
-  where
-    by_case : (b c : Bool) → cond (not b) send.NotUnsent (cond c send.SameHost (cond (is_bound_elsewhere w class) send.Class send.Applied)) ≡ send.Applied → c ≡ false
-    by_case false c f = cc
-    by_case true true f = cc
-    by_case true false f = refl
+had_none w host class i e = grind arith
 
 -- and its workunit was of the host's class, where it was active
 pub was_alike : (w : Workunit) (host : List ℕ) (class : ℕ) (i : Instance) → send_verdict_of w host class i ≡ send.Applied → has_active w ≡ true → w.class ≡ class
-was_alike w host class i e active = by_case (is_unsent i) (list_any (is_of host) w.instances) (w.class == class) refl (sym (ap verdict_by active) ∙ e)
-  where
-    verdict_by : Bool → SendVerdict
-    verdict_by b = cond (not (is_unsent i)) send.NotUnsent (cond (list_any (is_of host) w.instances) send.SameHost (cond (b && not (w.class == class)) send.Class send.Applied))
-
-    by_case : (b c d : Bool) → (w.class == class) ≡ d → cond (not b) send.NotUnsent (cond c send.SameHost (cond (true && not d) send.Class send.Applied)) ≡ send.Applied → w.class ≡ class
-    by_case false c d same f = cc
-    by_case true true d same f = cc
-    by_case true false true same f = eqb-true w.class class same
-    by_case true false false same f = cc
+was_alike w host class i e active = grind (arith, nat_tests)
 
 -- what is unsent has no host
 no_host : (i : Instance) → IsInstance i → is_unsent i ≡ true → i.host ≡ None
-no_host i formed e = none i.host (formed.unsent (unsent_is i.server_state e))
-  where
-    unsent_is : (s : ServerState) → is_unsent_state s ≡ true → s ≡ server.Unsent
-    unsent_is server.Unsent f = refl
-    unsent_is server.Inactive f = cc
-    unsent_is server.InProgress f = cc
-    unsent_is server.Over f = cc
-
-    none : (o : Option (List ℕ)) → is_some o ≡ false → o ≡ None
-    none None f = refl
-    none (Some host) f = cc
-
--- where nothing is made VALID or DONE, the class may be another one of what was sent
-rewrites_classed : (w v : Workunit) (class : ℕ) → Rewrites w v [] [] → IsWorkunit (record v { class = class })
-    → (list_any (λ i. is_some i.host) v.instances ≡ false → class ≡ 0) → Rewrites w (record v { class = class }) [] []
-rewrites_classed w v class r made classless = record {
-  number = r.number;
-  name = r.name;
-  credit = r.credit;
-  formed = made;
-  consistent = record {
-    instances = r.consistent.instances;
-    deletable = r.consistent.deletable;
-    sendable = r.consistent.sendable;
-    decidable = r.consistent.decidable;
-    given_up_or_decided = r.consistent.given_up_or_decided;
-    nothing_unsent = r.consistent.nothing_unsent;
-    undecided = r.consistent.undecided;
-    canonical = r.consistent.canonical;
-    classless = classless;
-  };
-  valid = r.valid;
-  canonical = r.canonical;
-  verdicts = r.verdicts;
-  hosts = r.hosts;
-  apart = r.apart;
-  given_up = r.given_up;
-  done = r.done;
-  stays = r.stays;
-  granted = record { workunit = r.granted.workunit; each = r.granted.each; own = λ k d lt. absurd (omega arith) };
-  archives = record { once = r.archives.once; own = λ k d lt. absurd (omega arith) };
-}
+no_host i formed e = grind arith
 
 -- a send that is applied rewrites
 rewrites_sent : (w : Workunit) (n : ℕ) (host : List ℕ) (class : ℕ) (moment : ℕ) → IsWorkunit w → IsConsistent w → send_verdict_in w n host class ≡ send.Applied
@@ -328,76 +235,38 @@ rewrites_sent w n host class moment formed h applied = by_case (slice_get w.inst
         let j = sent_to w host moment i in
         let possible = holds_at IsPossible w.instances n i h.instances e in
         let unsent = was_unsent w host class i f in
-        let sent = rewrites_set w n j formed h
-        (follows_sent w.instances n i j host e (possible_sent (moment + w.params.delay_bound) host moment i possible unsent)
-        (possible.judged (unsent_no_success i unsent) (not_over_not_refused i possible (unsent_not_over i.server_state unsent))) refl (no_host i (holds_at IsInstance w.instances n i formed.instances e) unsent) refl
-        (had_none w host class i f))
-        refl (with_instance_formed w n j (formed_sent_to w host moment i) formed) in
-        rewrites_classed w (with_instance_set w n j) class sent made
-        (λ none. let both : true ≡ false = sym (hosted_set w.instances n i j e refl) ∙ none in cc)
-
--- what is reported was no success
-taken_no_success : (a b c over : Bool) (o : Outcome)
-    → cond a report.NotSent (cond b report.WrongHost (cond c report.BeforeSent (cond (over && not (is_no_reply o)) report.Over report.Applied))) ≡ report.Applied
-    → (over && is_success_outcome o) ≡ false
-taken_no_success true b c over o e = cc
-taken_no_success false true c over o e = cc
-taken_no_success false false true over o e = cc
-taken_no_success false false false false o e = refl
-taken_no_success false false false true outcome.Success e = cc
-taken_no_success false false false true outcome.Init e = refl
-taken_no_success false false false true outcome.CouldntSend e = refl
-taken_no_success false false false true outcome.ClientError e = refl
-taken_no_success false false false true outcome.NoReply e = refl
-taken_no_success false false false true outcome.DidntNeed e = refl
-taken_no_success false false false true outcome.ValidateError e = refl
-taken_no_success false false false true outcome.ClientDetached e = refl
+        let follow = follows_sent w.instances n i j host e (possible_sent (moment + w.params.delay_bound) host moment i possible unsent)
+        (unsent_init i possible unsent) refl
+        (no_host i (holds_at IsInstance w.instances n i formed.instances e) unsent) refl (had_none w host class i f) in
+        rewrites_quietly w (sent_as w n host class moment i) formed h made
+        (quietly_to w w.error_mask w.params.target_nresults class (slice_set w.instances n j) refl (λ g. refl)
+        (λ none g. let both : true ≡ false = sym (hosted_set w.instances n i j e refl) ∙ none in cc) follow)
+        (awaits_set w class n j refl (awaits_of w h))
 
 -- a report is taken of what is no success alone
 pub was_no_success : (host : List ℕ) (moment : ℕ) (i : Instance) → report_verdict_of host moment i ≡ report.Applied → is_success i ≡ false
-was_no_success host moment i e = taken_no_success (is_none i.host) (not (is_of host i)) (is_sent_after moment i) (is_over_state i.server_state) i.outcome e
-
--- nor is it of what was refused
-refused_not_taken : (a b c : Bool)
-    → cond a report.NotSent (cond b report.WrongHost (cond c report.BeforeSent (cond (true && not (is_no_reply outcome.ValidateError)) report.Over report.Applied))) ≢ report.Applied
-refused_not_taken true b c e = cc
-refused_not_taken false true c e = cc
-refused_not_taken false false true e = cc
-refused_not_taken false false false e = cc
+was_no_success host moment i e = grind arith
 
 pub was_not_refused : (host : List ℕ) (moment : ℕ) (i : Instance) → IsPossible i → report_verdict_of host moment i ≡ report.Applied → i.outcome ≢ outcome.ValidateError
-was_not_refused host moment i possible taken e = refused_not_taken (is_none i.host) (not (is_of host i)) (is_sent_after moment i) (sym is ∙ taken)
-  where
-    verdict_by : ServerState → Outcome → ReportVerdict
-    verdict_by s o =
-        cond (is_none i.host) report.NotSent
-        (cond (not (is_of host i)) report.WrongHost (cond (is_sent_after moment i) report.BeforeSent (cond (is_over_state s && not (is_no_reply o)) report.Over report.Applied)))
-
-    is : report_verdict_of host moment i ≡ verdict_by server.Over outcome.ValidateError
-    is = ap (λ s. verdict_by s i.outcome) (possible.refused e).0 ∙ ap (verdict_by server.Over) e
+was_not_refused host moment i possible taken e = grind arith
 
 -- a report that is applied rewrites
 rewrites_reported : (w : Workunit) (n : ℕ) (host : List ℕ) (moment : ℕ) (status : Status) (output : List ℕ) → IsWorkunit w → IsConsistent w
     → report_verdict_in w n host moment ≡ report.Applied → Rewrites w (reported_in w n moment status output) [] []
 rewrites_reported w n host moment status output formed h applied =
-    by_case (slice_get w.instances n) refl applied ((keeps_formed w formed).reported n host moment status output applied)
-  where
-    by_case : (o : Option Instance) → slice_get w.instances n ≡ o → option_map_or (report_verdict_of host moment) o report.Unknown ≡ report.Applied
-        → IsWorkunit (option_map_or (λ instance. with_instance_set w n (reported_as moment status output instance)) o w)
-        → Rewrites w (option_map_or (λ instance. with_instance_set w n (reported_as moment status output instance)) o w) [] []
-    by_case None e f made = rewrites_unchanged w formed h
-    by_case (Some i) e f made =
-        let j = reported_as moment status output i in
-        let possible = holds_at IsPossible w.instances n i h.instances e in
-        let become = becomes_reported moment status output i possible (was_no_success host moment i f) (was_not_refused host moment i possible f) in
-        rewrites_set w n j formed h (follows w.instances (slice_set w.instances n j) (all_become-set w.instances n i j e become)) refl made
+    reported_has (λ v. IsWorkunit v → Rewrites w v [] []) w n host moment status output applied (λ i e f made.
+    let j = reported_as moment status output i in
+    let possible = holds_at IsPossible w.instances n i h.instances e in
+    let become = becomes_reported moment status output i possible (was_no_success host moment i f) (was_not_refused host moment i possible f) in
+    rewrites_quietly w (with_instance_set w n j) formed h made
+    (quietly_same w (slice_set w.instances n j) (all_become-set w.instances n i j e become)) (awaits_set w w.class n j refl (awaits_of w h)))
+    ((keeps_formed w formed).reported n host moment status output applied)
 
 -- ---- the validator
 
 -- one of two is enough
 or_true : (a b : Bool) → b ≡ true → (a || b) ≡ true
-or_true true b e = refl
-or_true false b e = e
+or_true a b e = grind arith
 
 -- bytes are equal to themselves
 same_bytes : (xs : List ℕ) → bytes_eq xs xs ≡ true
@@ -421,11 +290,11 @@ valid_still w output ys become n e =
 -- what is judged by an output, and granted for it
 rewrites_judged : (w : Workunit) (output : List ℕ) (c : Option ℕ) (a : Assimilate) (ys : List Instance) → IsWorkunit w → IsConsistent w
     → is_clear w.error_mask ≡ true
-    → IsWorkunit (judged_to w c a ys) → AllBecome (is_made w output) w.instances ys → ((i : Instance) → is_judged w i ≡ true → is_viable i ≡ true)
+    → IsWorkunit (judged_to w c a ys) → AllBecome (is_made w output) w.instances ys
     → ((n : ℕ) → c ≡ Some n → is_valid_at ys n ≡ true) → ((n : ℕ) → w.canonical ≡ Some n → c ≡ Some n)
     → is_done_assimilate a ≡ is_done_assimilate w.assimilate → Awaits (judged_to w c a ys)
     → All (IsRightGrantIn w (judged_to w c a ys)) (grants_by w output) → Rewrites w (judged_to w c a ys) (grants_by w output) []
-rewrites_judged w output c a ys formed h clear made become viable valid stays done awaits right = record {
+rewrites_judged w output c a ys formed h clear made become valid stays done awaits right = record {
   number = refl;
   name = refl;
   credit = refl;
@@ -449,7 +318,7 @@ rewrites_judged w output c a ys formed h clear made become viable valid stays do
   given_up = λ e. e;
   done = λ e. done ∙ e;
   stays = λ e. (refl, refl);
-  granted = grants_new w v output viable (recursion_from_All IsInstance w.instances formed.instances) become refl right;
+  granted = grants_new w v output (recursion_from_All IsInstance w.instances formed.instances) become refl right;
   archives = archives_none w v done;
 }
   where
@@ -463,14 +332,15 @@ rewrites_judged w output c a ys formed h clear made become viable valid stays do
     same = same_host (is_made w output) w.instances ys become
 
 -- the chosen result is VALID by its own output
-chosen_valid : (w : Workunit) (n : ℕ) (ys : List Instance) → ((i : Instance) → is_judged w i ≡ is_viable i)
+chosen_valid : (w : Workunit) (n : ℕ) (ys : List Instance) → w.canonical ≡ None
     → AllBecome (is_made w (output_at w.instances n)) w.instances ys
     → IsChosen w n → is_valid_at ys n ≡ true
-chosen_valid w n ys viable become choice =
+chosen_valid w n ys none become choice =
     let output = output_at w.instances n in
     let own : output ≡ choice.chosen.output = ap (λ o. option_map_or (λ (i : Instance). i.output) o []) choice.stands in
     let equal : bytes_eq choice.chosen.output output ≡ true = ap (λ bytes. bytes_eq choice.chosen.output bytes) own ∙ same_bytes choice.chosen.output in
-    let one : is_made w output choice.chosen ≡ true = ap (λ b. b && bytes_eq choice.chosen.output output) (viable choice.chosen ∙ choice.is_viable) ∙ equal in
+    let one : is_made w output choice.chosen ≡ true = ap (λ o. is_judged_where (is_none o) choice.chosen && bytes_eq choice.chosen.output output) none
+    ∙ (ap (λ b. b && bytes_eq choice.chosen.output output) choice.is_viable ∙ equal) in
     let found : option_map_or (is_made w output) (slice_get w.instances n) false ≡ true =
     ap (λ o. option_map_or (is_made w output) o false) choice.stands ∙ one in
     valid_at (is_made w output) w.instances ys become n ∙ ap (λ b. b || is_valid_at w.instances n) found
@@ -480,8 +350,8 @@ rewrites_agreed : (w : Workunit) (n : ℕ) → IsWorkunit w → IsConsistent w �
     → IsWorkunit (agreed_on w n) → All (IsRightGrantIn w (agreed_on w n)) (grants_by w (output_at w.instances n))
     → Rewrites w (agreed_on w n) (grants_by w (output_at w.instances n)) []
 rewrites_agreed w n formed h clear none agreed made right =
-    rewrites_judged w output (Some n) (readied_assimilate w.assimilate) ys formed h clear made become (λ i e. sym (viable i) ∙ e)
-    (λ m e. (let same : n ≡ m = cc in subst (λ k. is_valid_at ys k ≡ true) same (chosen_valid w n ys viable become (chosen w n agreed))))
+    rewrites_judged w output (Some n) (readied_assimilate w.assimilate) ys formed h clear made become
+    (λ m e. (let same : n ≡ m = cc in subst (λ k. is_valid_at ys k ≡ true) same (chosen_valid w n ys none become (chosen w n agreed))))
     (λ m e. (let both : None ≡ Some m = sym none ∙ e in cc))
     (ready_done w.assimilate) awaits right
   where
@@ -491,12 +361,10 @@ rewrites_agreed w n formed h clear none agreed made right =
     ys : List Instance
     ys = map (judged_by output) w.instances
 
-    viable : (i : Instance) → is_judged w i ≡ is_viable i
-    viable i = ap (λ o. cond (is_none o) (is_viable i) (is_new i)) none
-
     become : AllBecome (is_made w output) w.instances ys
     become = all_become (is_made w output) (judged_by output)
-        (λ i. subst (λ b. Becomes (b && bytes_eq i.output output) i (judged_by output i)) (sym (viable i)) (becomes_judged_by output i)) w.instances
+        (λ i. subst (λ o. Becomes (is_judged_where (is_none o) i && bytes_eq i.output output) i (judged_by output i)) (sym none) (becomes_judged_by output i))
+        w.instances
 
     awaits : Awaits (agreed_on w n)
     awaits = record {
@@ -510,18 +378,16 @@ rewrites_late : (w : Workunit) (c : ℕ) (output : List ℕ) → IsWorkunit w �
     → All (IsRightGrantIn w (record w { instances = map (judged_late_by false output) w.instances })) (grants_by w output)
     → Rewrites w (record w { instances = map (judged_late_by false output) w.instances }) (grants_by w output) []
 rewrites_late w c output formed h clear some made right =
-    rewrites_judged w output w.canonical w.assimilate ys formed h clear made become (λ i e. new_is_viable i (sym (judged_new i) ∙ e))
+    rewrites_judged w output w.canonical w.assimilate ys formed h clear made become
     (λ n e. valid_still w output ys become n (canonical_valid w formed h n e)) (λ n e. e) refl awaits right
   where
     ys : List Instance
     ys = map (judged_late_by false output) w.instances
 
-    judged_new : (i : Instance) → is_judged w i ≡ is_new i
-    judged_new i = ap (λ o. cond (is_none o) (is_viable i) (is_new i)) some
-
     become : AllBecome (is_made w output) w.instances ys
     become = all_become (is_made w output) (judged_late_by false output)
-        (λ i. subst (λ b. Becomes (b && bytes_eq i.output output) i (judged_late_by false output i)) (sym (judged_new i)) (becomes_judged_late_by output i))
+        (λ i. subst (λ o. Becomes (is_judged_where (is_none o) i && bytes_eq i.output output) i (judged_late_by false output i)) (sym some)
+        (becomes_judged_late_by output i))
         w.instances
 
     awaits : Awaits (record w { instances = ys })
@@ -541,35 +407,18 @@ rewrites_too_late w output formed h made =
 
 -- what is concluded rewrites, with what is credited
 rewrites_concluded : (w : Workunit) → IsWorkunit w → IsConsistent w → Rewrites w (concluded w) (credited w) []
-unfolding concluded credited
-rewrites_concluded w formed h = by_case (is_to_validate w) refl (formed_concluded w formed) (credits_right w)
+rewrites_concluded w formed h =
+    concluded_has (λ v gs. IsWorkunit v → All (IsRightGrantIn w v) gs → Rewrites w v gs []) w (λ made right. rewrites_unchanged w formed h)
+    (λ c looked some made right. rewrites_too_late w (output_at w.instances c) formed h made)
+    (λ c looked some made right. rewrites_late w c (output_at w.instances c) formed h (clear looked) some made right)
+    (λ n looked none agreed made right. rewrites_agreed w n formed h (clear looked) none agreed made right)
+    (λ looked none made right. rewrites_quietly w (left_open w) formed h made
+    (quietly_left_open w (and_from (is_none w.canonical) (is_clear w.error_mask) (ap is_none none) (clear looked)))
+    (awaits_left_open w (awaits_of w h)))
+    (formed_concluded w formed) (credits_right w)
   where
-    by_consensus : (o : Option ℕ) → consensus w ≡ o → is_clear w.error_mask ≡ true → w.canonical ≡ None
-        → IsWorkunit (decided w o) → All (IsRightGrantIn w (decided w o)) (grants_decided w o) → Rewrites w (decided w o) (grants_decided w o) []
-    by_consensus None e clear none made right = rewrites_quietly w (left_open w) formed h made (quietly_left_open w (and_from (is_none w.canonical) (is_clear w.error_mask) (ap is_none none) clear)) (awaits_left_open w (awaits_of w h))
-    by_consensus (Some n) e clear none made right = rewrites_agreed w n formed h clear none e made right
-
-    late : Bool → ℕ → Workunit
-    late gone c = record w { instances = map (judged_late_by gone (output_at w.instances c)) w.instances }
-
-    by_output : (gone : Bool) (c : ℕ) → is_clear w.error_mask ≡ true → w.canonical ≡ Some c
-        → IsWorkunit (late gone c) → All (IsRightGrantIn w (late gone c)) (cond gone [] (grants_by w (output_at w.instances c)))
-        → Rewrites w (late gone c) (cond gone [] (grants_by w (output_at w.instances c))) []
-    by_output true c clear some made right = rewrites_too_late w (output_at w.instances c) formed h made
-    by_output false c clear some made right = rewrites_late w c (output_at w.instances c) formed h clear some made right
-
-    by_canonical : (o : Option ℕ) → w.canonical ≡ o → is_clear w.error_mask ≡ true
-        → IsWorkunit (validated_by w o) → All (IsRightGrantIn w (validated_by w o)) (granted_by w o) → Rewrites w (validated_by w o) (granted_by w o) []
-    by_canonical None e clear made right = by_consensus (consensus w) refl clear e made right
-    by_canonical (Some c) e clear made right = by_output (is_deleted_at w.instances c) c clear e made right
-
-    by_case : (b : Bool) → b ≡ is_to_validate w → IsWorkunit (cond b (validated_by w w.canonical) w)
-        → All (IsRightGrantIn w (cond b (validated_by w w.canonical) w)) (cond b (granted_by w w.canonical) [])
-        → Rewrites w (cond b (validated_by w w.canonical) w) (cond b (granted_by w w.canonical) []) []
-    by_case true e made right =
-        by_canonical w.canonical refl
-        (and_left (is_clear w.error_mask) (has_new_success w) (and_left (is_clear w.error_mask && has_new_success w) _ (sym e))) made right
-    by_case false e made right = rewrites_unchanged w formed h
+    clear : is_to_validate w ≡ true → is_clear w.error_mask ≡ true
+    clear looked = and_left (is_clear w.error_mask) (has_new_success w) (and_left (is_clear w.error_mask && has_new_success w) _ looked)
 
 -- what rewrites after a rule that makes nothing VALID rewrites
 rewrites_after : (w v u : Workunit) (gs : List Grant) → Quietly w v → Rewrites w v [] [] → Rewrites v u gs [] → Rewrites w u gs []

@@ -1,5 +1,6 @@
 -- What the assimilator, the file deleter and the purge leave alone.
-use Rattle.std.proofs.Common.{◌≡◌, ◌≢◌, ℕ, ◌+◌, ◌≤◌, nat_le, Bool, true, false, cond, ◌&&◌, List, [], ◌∷◌, map, Option, Some, None, refl, sym, ap, subst, ◌∙◌, leb-true, le-leb, arith}
+use Rattle.std.proofs.Common.{◌≡◌, ◌≢◌, ℕ, ◌+◌, ◌≤◌, nat_le, Bool, true, false, cond, ◌&&◌, List, [], ◌∷◌, map, Option, Some, refl, sym, ap, subst, ◌∙◌, arith}
+use Rattle.std.proofs.lemmas.Bool.Decides.{nat_tests}
 use Rattle.std.specs.List.{list_any, list_all, slice_get}
 use Rattle.std.specs.Option.{option_map_or, option_map}
 use Rattle.std.proofs.lemmas.Option.{slice_get-map}
@@ -9,37 +10,28 @@ use Rattle.wu_core.specs.declared.states.Assimilate.{Assimilate}
 use Rattle.wu_core.specs.declared.states.Assimilate.TheVariants as assimilate
 use Rattle.wu_core.specs.declared.states.FileDelete.{FileDelete}
 use Rattle.wu_core.specs.declared.states.FileDelete.TheVariants as file_delete
-use Rattle.wu_rules.specs.Instances.{is_over, is_ready_assimilate, is_done_assimilate, is_ready_file, is_deleted_file}
+use Rattle.wu_rules.specs.Instances.{is_ready_assimilate, is_done_assimilate, is_ready_file, is_deleted_file}
 use Rattle.wu_rules.specs.Assimilation.{assimilated, emptied, without_output, is_to_delete, is_spent, is_purgeable}
-use Rattle.wu_rules_laws.proofs.Changed.{or_left, or_right, or_from, any_false-map, map-untouched}
+use Rattle.wu_rules_laws.proofs.Changed.{or_left, or_right, or_from, any_false-map, map-untouched, only_where}
 
 pub and_left : (a b : Bool) → (a && b) ≡ true → a ≡ true
-and_left true b e = refl
-and_left false b e = cc
+and_left a b e = grind arith
 
 pub and_right : (a b : Bool) → (a && b) ≡ true → b ≡ true
-and_right true b e = e
-and_right false b e = cc
+and_right a b e = grind arith
 
 pub and_from : (a b : Bool) → a ≡ true → b ≡ true → (a && b) ≡ true
 and_from a b e f = cc
 
 deleted_not_ready : (f : FileDelete) → is_deleted_file f ≡ true → is_ready_file f ≡ false
-deleted_not_ready file_delete.Init e = refl
-deleted_not_ready file_delete.Ready e = sym e
-deleted_not_ready file_delete.Done e = refl
-deleted_not_ready file_delete.Error e = refl
+deleted_not_ready f e = grind arith
 
 done_not_ready : (a : Assimilate) → is_done_assimilate a ≡ true → is_ready_assimilate a ≡ false
-done_not_ready assimilate.Init e = refl
-done_not_ready assimilate.Ready e = sym e
-done_not_ready assimilate.Done e = refl
+done_not_ready a e = grind arith
 
 spent_none_ready : (xs : List Instance) → list_all is_spent xs ≡ true → list_any (λ i. is_ready_file i.file_delete) xs ≡ false
 spent_none_ready [] e = refl
-spent_none_ready (x ∷ xs) e =
-    let here = and_left (is_spent x) (list_all is_spent xs) e in
-    or_from (is_ready_file x.file_delete) (list_any (λ i. is_ready_file i.file_delete) xs) (deleted_not_ready x.file_delete (and_right (is_over x) (is_deleted_file x.file_delete) here)) (spent_none_ready xs (and_right (is_spent x) (list_all is_spent xs) e))
+spent_none_ready (x ∷ xs) e = let rest = spent_none_ready xs (grind arith) in grind arith
 
 -- where nothing is ready nothing is emptied
 pub emptied-untouched : (w : Workunit) → is_to_delete w ≡ false → emptied w ≡ w
@@ -52,17 +44,10 @@ emptied-untouched w e =
     ∙ ap (λ zs. record w { instances = zs }) kept
 
 file_done : (f : FileDelete) → is_ready_file (cond (is_ready_file f) file_delete.Done f) ≡ false
-file_done file_delete.Init = refl
-file_done file_delete.Ready = refl
-file_done file_delete.Done = refl
-file_done file_delete.Error = refl
+file_done f = grind arith
 
 output_done : (i : Instance) → is_ready_file (without_output i).file_delete ≡ false
-output_done i = by_case (is_ready_file i.file_delete) refl
-  where
-    by_case : (b : Bool) → b ≡ is_ready_file i.file_delete → is_ready_file (cond b (record i { file_delete = file_delete.Done; output = [] }) i).file_delete ≡ false
-    by_case true e = refl
-    by_case false e = sym e
+output_done i = grind arith
 
 -- once emptied, nothing is ready
 pub emptied-once : (w : Workunit) → is_to_delete (emptied w) ≡ false
@@ -71,16 +56,10 @@ emptied-once w = or_from (is_ready_file (emptied w).file_delete) (list_any (λ i
 
 pub ready-changed : (w : Workunit) → is_to_delete w ≡ true → emptied w ≢ w
 ready-changed w e same =
-    let none = subst (λ v. is_to_delete v ≡ false) same (emptied-once w) in
-    let no : true ≡ false = sym e ∙ none in
-    cc
+    let no : true ≡ false = sym e ∙ subst (λ v. is_to_delete v ≡ false) same (emptied-once w) in cc
 
 pub changed-ready : (w : Workunit) → emptied w ≢ w → is_to_delete w ≡ true
-changed-ready w changed = by_case (is_to_delete w) refl
-  where
-    by_case : (b : Bool) → b ≡ is_to_delete w → is_to_delete w ≡ true
-    by_case true e = sym e
-    by_case false e = absurd (changed (emptied-untouched w (sym e)))
+changed-ready w changed = only_where (is_to_delete w) (emptied w) w (emptied-untouched w) changed
 
 -- ---- the assimilator
 
@@ -90,24 +69,14 @@ assimilated-untouched w now e = ap (λ b. cond b (record w { assimilate = assimi
 
 pub assimilated-once : (w : Workunit) (now : ℕ) → is_ready_assimilate (assimilated w now).assimilate ≡ false
 unfolding assimilated
-assimilated-once w now = by_case (is_ready_assimilate w.assimilate) refl
-  where
-    by_case : (b : Bool) → b ≡ is_ready_assimilate w.assimilate → is_ready_assimilate (cond b (record w { assimilate = assimilate.Done; done_at = Some now }) w).assimilate ≡ false
-    by_case true e = refl
-    by_case false e = sym e
+assimilated-once w now = grind arith
 
 pub ready_assimilate-changed : (w : Workunit) (now : ℕ) → is_ready_assimilate w.assimilate ≡ true → assimilated w now ≢ w
 ready_assimilate-changed w now e same =
-    let none = subst (λ v. is_ready_assimilate v.assimilate ≡ false) same (assimilated-once w now) in
-    let no : true ≡ false = sym e ∙ none in
-    cc
+    let no : true ≡ false = sym e ∙ subst (λ v. is_ready_assimilate v.assimilate ≡ false) same (assimilated-once w now) in cc
 
 pub changed-ready_assimilate : (w : Workunit) (now : ℕ) → assimilated w now ≢ w → is_ready_assimilate w.assimilate ≡ true
-changed-ready_assimilate w now changed = by_case (is_ready_assimilate w.assimilate) refl
-  where
-    by_case : (b : Bool) → b ≡ is_ready_assimilate w.assimilate → is_ready_assimilate w.assimilate ≡ true
-    by_case true e = sym e
-    by_case false e = absurd (changed (assimilated-untouched w now (sym e)))
+changed-ready_assimilate w now changed = only_where (is_ready_assimilate w.assimilate) (assimilated w now) w (assimilated-untouched w now) changed
 
 -- ---- the purge
 
@@ -120,23 +89,11 @@ pub record Purgeable (w : Workunit) (now age : ℕ) : Type 0 where
 
 pub purgeable_parts : (w : Workunit) (now age : ℕ) → is_purgeable w now age ≡ true → Purgeable w now age
 unfolding is_purgeable
-purgeable_parts w now age e =
-    let a = is_done_assimilate w.assimilate in
-    let b = is_deleted_file w.file_delete in
-    let c = list_all is_spent w.instances in
-    let d = option_map_or (λ done_at. nat_le (done_at + age) now) w.done_at false in
-    let e3 = and_left (a && b && c) d e in
-    let e2 = and_left (a && b) c e3 in
-    record { done = and_left a b e2; input = and_right a b e2; outputs = and_right (a && b) c e3; aged = and_right (a && b && c) d e }
+purgeable_parts w now age e = grind arith
 
 pub purgeable_from : (w : Workunit) (now age : ℕ) → Purgeable w now age → is_purgeable w now age ≡ true
 unfolding is_purgeable
-purgeable_from w now age p =
-    let a = is_done_assimilate w.assimilate in
-    let b = is_deleted_file w.file_delete in
-    let c = list_all is_spent w.instances in
-    let d = option_map_or (λ done_at. nat_le (done_at + age) now) w.done_at false in
-    and_from (a && b && c) d (and_from (a && b) c (and_from a b p.done p.input) p.outputs) p.aged
+purgeable_from w now age p = grind arith
 
 pub purgeable-assimilated : (w : Workunit) (now age : ℕ) → is_purgeable w now age ≡ true → (moment : ℕ) → assimilated w moment ≡ w
 purgeable-assimilated w now age e moment = assimilated-untouched w moment (done_not_ready w.assimilate (purgeable_parts w now age e).done)
@@ -148,8 +105,7 @@ purgeable-emptied w now age e =
     emptied-untouched w (or_from (is_ready_file w.file_delete) (list_any (λ i. is_ready_file i.file_delete) w.instances) (deleted_not_ready w.file_delete p.input) (spent_none_ready w.instances p.outputs))
 
 aged_later : (o : Option ℕ) (now later age : ℕ) → now ≤ later → option_map_or (λ d. nat_le (d + age) now) o false ≡ true → option_map_or (λ d. nat_le (d + age) later) o false ≡ true
-aged_later None now later age le e = e
-aged_later (Some d) now later age le e = let by : d + age ≤ now = leb-true (d + age) now e in le-leb (d + age) later (omega arith)
+aged_later o now later age le e = grind (arith, nat_tests)
 
 pub purgeable-later : (w : Workunit) (now later age : ℕ) → now ≤ later → is_purgeable w now age ≡ true → is_purgeable w later age ≡ true
 purgeable-later w now later age le e =

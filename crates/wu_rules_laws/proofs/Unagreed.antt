@@ -1,94 +1,53 @@
 -- What a validation makes of target and mask.
-use Rattle.std.proofs.Common.{◌≡◌, ◌⊎◌, ℕ, ◌+◌, ◌<◌, ◌≤◌, nat_le, nat_lt, Bool, true, false, cond, ◌&&◌, map, length, Option, Some, None, refl, sym, ap, subst, ◌∙◌, inl, inr, eqb-true, le-leb, arith}
+use Rattle.std.proofs.Common.{◌≡◌, ◌⊎◌, ℕ, ◌+◌, ◌<◌, ◌≤◌, nat_lt, Bool, true, false, cond, length, Some, refl, sym, ap, subst, ◌∙◌, arith}
 use Rattle.std.proofs.lemmas.Bool.Decides.{nat_tests}
 use Rattle.std.specs.Prelude.{◌↔◌}
-use Rattle.wu_core.specs.Mask.{bit_value, error_mask_code}
 use Rattle.wu_core.specs.declared.mask.ErrorMask.{ErrorMask}
 use Rattle.wu_core.specs.declared.workunit.Workunit.{Workunit}
 use Rattle.wu_core.specs.Parameters.{Parameters}
-use Rattle.wu_rules.specs.Counts.{consensus, has_new_success, is_clear, viable}
-use Rattle.wu_rules.specs.Validation.{agreed_on, checked, concluded, decided, doubted, doubted_or_closed, is_to_validate, judged_after, raised_target, validated, validated_by}
+use Rattle.wu_rules.specs.Counts.{viable}
+use Rattle.wu_rules.specs.Validation.{checked, concluded, decided, is_to_validate, left_open, validated, validated_by}
 use Rattle.wu_rules_laws.specs.Laws.{AsksForMore, IsUnagreed}
-use Rattle.wu_rules_laws.proofs.Checking.{checked_mask, checked_params, validated_is}
-use Rattle.wu_rules_laws.proofs.Planned.{no_bit}
-use Rattle.wu_rules_laws.proofs.Spent.{and_left}
+use Rattle.wu_rules_laws.proofs.Changed.{cond_has}
+use Rattle.wu_rules_laws.proofs.Checking.{checked_mask, checked_params, concluded_has, validated_is}
+use Rattle.wu_rules_laws.proofs.Choosing.{left_open_keeps}
 
--- what is left open, by whether there are too many successes
-abbrev opened : Workunit → Bool → Workunit
-opened w b = cond b
-    (record w { error_mask = record w.error_mask { too_many_success_results = true }; instances = map doubted_or_closed w.instances })
-    (record w { params = record w.params { target_nresults = raised_target w.params (length (viable w)) }; instances = map doubted w.instances })
-
-open_image : (w : Workunit) → IsUnagreed w → concluded w ≡ opened w (nat_lt w.params.max_success_results (length (viable w)))
+open_image : (w : Workunit) → IsUnagreed w → concluded w ≡ left_open w
 unfolding concluded
 open_image w it =
     ap (λ b. cond b (validated_by w w.canonical) w) it.looked_at ∙ (ap (validated_by w) it.undecided ∙ ap (decided w) it.no_consensus)
 
 -- the validator looks only where no bit is set
 bit_clear : (w : Workunit) → is_to_validate w ≡ true → w.error_mask.too_many_success_results ≡ false
-bit_clear w e =
-    let clear : is_clear w.error_mask ≡ true = and_left (is_clear w.error_mask) (has_new_success w) (and_left (is_clear w.error_mask && has_new_success w) _ e) in
-    let none : error_mask_code w.error_mask ≡ 0 = eqb-true (error_mask_code w.error_mask) 0 clear in
-    let bit : bit_value w.error_mask.too_many_success_results ≡ 0 = omega arith in
-    no_bit w.error_mask.too_many_success_results bit
+bit_clear w e = grind (arith, nat_tests)
+
+-- what is left open is given up exactly where there are too many successes
+many_set : (w : Workunit) → w.error_mask.too_many_success_results ≡ false
+    → ((left_open w).error_mask.too_many_success_results ≡ true) ↔ (w.params.max_success_results < length (viable w))
+many_set w clear = grind (arith, nat_tests)
+
+-- its target is raised where the successes reach it and are not too many
+target_raised : (w : Workunit) → length (viable w) ≤ w.params.max_success_results → w.params.target_nresults ≤ length (viable w)
+    → (left_open w).params.target_nresults ≡ length (viable w) + 1
+target_raised w borne reached = grind (arith, nat_tests)
+
+target_stays : (w : Workunit) → (w.params.max_success_results < length (viable w)) ⊎ (length (viable w) < w.params.target_nresults)
+    → (left_open w).params.target_nresults ≡ w.params.target_nresults
+target_stays w why = grind (arith, nat_tests)
 
 module _ (w : Workunit) where
-  abbrev many : ℕ
-  many = length (viable w)
-
   gives_up_many : IsUnagreed w → ((concluded w).error_mask.too_many_success_results ≡ true) ↔ (w.params.max_success_results < length (viable w))
   gives_up_many it =
       subst (λ (v : Workunit). (v.error_mask.too_many_success_results ≡ true) ↔ (w.params.max_success_results < length (viable w))) (sym (open_image w it))
-      (by (nat_lt w.params.max_success_results (length (viable w))) refl)
-    where
-      by : (b : Bool) → nat_lt w.params.max_success_results (length (viable w)) ≡ b
-          → ((opened w b).error_mask.too_many_success_results ≡ true) ↔ (w.params.max_success_results < length (viable w))
-      by true e = (λ set. grind (arith, nat_tests), λ more. refl)
-      by false e = (
-        λ set. absurd (let both : true ≡ false = sym set ∙ bit_clear w it.looked_at in cc),
-        λ more. absurd (let test : nat_lt w.params.max_success_results (length (viable w)) ≡ true = grind (arith, nat_tests) in let both : true ≡ false = sym test ∙ e in cc),
-      )
+      (many_set w (bit_clear w it.looked_at))
 
   raises : IsUnagreed w → length (viable w) ≤ w.params.max_success_results → w.params.target_nresults ≤ length (viable w)
       → (concluded w).params.target_nresults ≡ length (viable w) + 1
-  raises it borne reached =
-      let few : nat_lt w.params.max_success_results (length (viable w)) ≡ false = grind (arith, nat_tests) in
-      ap (λ (v : Workunit). v.params.target_nresults) (open_image w it)
-      ∙ (ap (λ b. (opened w b).params.target_nresults) few
-      ∙ ap (λ b. cond b (length (viable w) + 1) w.params.target_nresults) (le-leb w.params.target_nresults (length (viable w)) reached))
+  raises it borne reached = ap (λ (v : Workunit). v.params.target_nresults) (open_image w it) ∙ target_raised w borne reached
 
   stays_open : IsUnagreed w → (w.params.max_success_results < length (viable w)) ⊎ (length (viable w) < w.params.target_nresults)
       → (concluded w).params.target_nresults ≡ w.params.target_nresults
-  stays_open it why =
-      ap (λ (v : Workunit). v.params.target_nresults) (open_image w it) ∙ by (nat_lt w.params.max_success_results (length (viable w))) refl why
-    where
-      by : (b : Bool) → nat_lt w.params.max_success_results (length (viable w)) ≡ b
-          → (w.params.max_success_results < length (viable w)) ⊎ (length (viable w) < w.params.target_nresults)
-          → (opened w b).params.target_nresults ≡ w.params.target_nresults
-      by true e why = refl
-      by false e (inl more) =
-          absurd (let test : nat_lt w.params.max_success_results (length (viable w)) ≡ true = grind (arith, nat_tests) in let both : true ≡ false = sym test ∙ e in cc)
-      by false e (inr short) =
-          let below : nat_le w.params.target_nresults (length (viable w)) ≡ false = grind (arith, nat_tests) in
-          ap (λ b. cond b (length (viable w) + 1) w.params.target_nresults) below
-
--- this holds of what is concluded where it holds of each image
-concluded_has : (P : Workunit → Type 0) (w : Workunit) → P w → ((n : ℕ) → P (judged_after w n)) → ((n : ℕ) → P (agreed_on w n))
-    → (w.canonical ≡ None → (b : Bool) → P (opened w b)) → P (concluded w)
-unfolding concluded
-concluded_has P w same after chosen left = by (is_to_validate w)
-  where
-    by_consensus : (o : Option ℕ) → w.canonical ≡ None → P (decided w o)
-    by_consensus (Some n) none = chosen n
-    by_consensus None none = left none (nat_lt w.params.max_success_results (length (viable w)))
-
-    by_canonical : (o : Option ℕ) → w.canonical ≡ o → P (validated_by w o)
-    by_canonical (Some n) is = after n
-    by_canonical None is = by_consensus (consensus w) is
-
-    by : (b : Bool) → P (cond b (validated_by w w.canonical) w)
-    by true = by_canonical w.canonical refl
-    by false = same
+  stays_open it why = ap (λ (v : Workunit). v.params.target_nresults) (open_image w it) ∙ target_stays w why
 
 -- what it changes of parameters and mask
 record Changes (w v : Workunit) : Type 0 where
@@ -98,28 +57,19 @@ record Changes (w v : Workunit) : Type 0 where
 
 changes : (w : Workunit) → Changes w (concluded w)
 changes w = record {
-  other_params = concluded_has (λ v. v.params ≡ record w.params { target_nresults = v.params.target_nresults }) w
-      refl (λ n. refl) (λ n. refl) (λ none. params_open);
-  other_bits = concluded_has (λ v. v.error_mask ≡ record w.error_mask { too_many_success_results = v.error_mask.too_many_success_results }) w
-      refl (λ n. refl) (λ n. refl) (λ none. bits_open);
-  decided = concluded_has (λ v. (n : ℕ) → v.canonical ≡ Some n → (v.params ≡ w.params) × (v.error_mask ≡ w.error_mask)) w
-      (λ n is. (refl, refl)) (λ m n is. (refl, refl)) (λ m n is. (refl, refl)) none_decided;
+  other_params = concluded_has (λ v gs. v.params ≡ record w.params { target_nresults = v.params.target_nresults }) w
+      refl (λ c looked some. refl) (λ c looked some. refl) (λ n looked none agreed. refl)
+      (λ looked none. cond_has (λ (v : Workunit). v.params ≡ record w.params { target_nresults = v.params.target_nresults }) many _ _ refl refl);
+  other_bits = concluded_has (λ v gs. v.error_mask ≡ record w.error_mask { too_many_success_results = v.error_mask.too_many_success_results }) w
+      refl (λ c looked some. refl) (λ c looked some. refl) (λ n looked none agreed. refl)
+      (λ looked none. cond_has (λ (v : Workunit). v.error_mask ≡ record w.error_mask { too_many_success_results = v.error_mask.too_many_success_results }) many _ _ refl refl);
+  decided = concluded_has (λ v gs. (n : ℕ) → v.canonical ≡ Some n → (v.params ≡ w.params) × (v.error_mask ≡ w.error_mask)) w
+      (λ n is. (refl, refl)) (λ c looked some n is. (refl, refl)) (λ c looked some n is. (refl, refl))
+      (λ m looked none agreed n is. (refl, refl)) (λ looked none n is. absurd (let same = left_open_keeps w in cc));
 }
   where
-    params_open : (b : Bool) → (opened w b).params ≡ record w.params { target_nresults = (opened w b).params.target_nresults }
-    params_open true = refl
-    params_open false = refl
-
-    bits_open : (b : Bool) → (opened w b).error_mask ≡ record w.error_mask { too_many_success_results = (opened w b).error_mask.too_many_success_results }
-    bits_open true = refl
-    bits_open false = refl
-
-    still_none : (b : Bool) → (opened w b).canonical ≡ w.canonical
-    still_none true = refl
-    still_none false = refl
-
-    none_decided : w.canonical ≡ None → (b : Bool) (n : ℕ) → (opened w b).canonical ≡ Some n → ((opened w b).params ≡ w.params) × ((opened w b).error_mask ≡ w.error_mask)
-    none_decided none b n is = absurd (let same = still_none b in cc)
+    many : Bool
+    many = nat_lt w.params.max_success_results (length (viable w))
 
 -- of what is left without empty outputs
 module _ (w : Workunit) where

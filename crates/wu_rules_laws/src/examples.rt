@@ -179,13 +179,15 @@ pub fn marks_what_is_due()
         ≡ record (wakes_at None) { purge_from = Some 1000 } }
     // A workunit with two new successes and an instance in progress is marked for a validation, and
     // for a transition after the deadline.
-    ensures back { marks two_agree ≡ record (wakes_at (Some a_second_late)) { to_validate = true } }
+    ensures back { marks two_agree
+        ≡ record (wakes_at (Some a_second_late)) { to_validate = true } }
     // A cancelled workunit is marked for a transition at once.
     ensures closed { marks two_unneeded ≡ wakes_at (Some 0) }
     // A workunit with a file READY for deletion is marked for the file deleter alone.
     ensures deleting { marks one_may_go ≡ record (wakes_at None) { to_delete = true } }
     // A workunit that is READY for assimilation is marked for the assimilator alone.
-    ensures ended { marks (ready ended_by_total) ≡ record (wakes_at None) { to_assimilate = true } }
+    ensures ended { marks (ready ended_by_total)
+        ≡ record (wakes_at None) { to_assimilate = true } }
 {}
 
 /// Computes that two results that differ are INCONCLUSIVE, and a third one decides.
@@ -221,14 +223,16 @@ pub fn agrees_by_half_and_one()
 /// Computes that an empty output is refused, and another instance made.
 pub fn refuses_empty_outputs()
     // An empty output is refused, and the result beside it stays without a verdict.
-    ensures one { validated (one_and_a_result (empty h1) []) ≡ one_and_a_result (no_result h1) [] }
+    ensures one { validated (one_and_a_result (empty h1) [])
+        ≡ one_and_a_result (no_result h1) [] }
     // Nothing is granted.
     ensures nothing { grants (one_and_a_result (empty h1) []) ≡ [] }
     // The next transition makes another instance.
     ensures made { transitioned (one_and_a_result (no_result h1) []) sending
         ≡ one_and_a_result (no_result h1) (fresh ∷ []) }
     // Two empty outputs are both refused.
-    ensures both { validated (two_of (empty h1) (empty h2)) ≡ two_of (no_result h1) (no_result h2) }
+    ensures both { validated (two_of (empty h1) (empty h2))
+        ≡ two_of (no_result h1) (no_result h2) }
     // They count as two errors.
     ensures errors { errors (two_of (no_result h1) (no_result h2)) ≡ 2 }
 {}
@@ -288,7 +292,8 @@ pub fn cancels_and_purges()
     // A transition makes it READY for assimilation.
     ensures ready { transitioned two_unneeded sending ≡ ready two_unneeded }
     // After the assimilation a transition marks its files for deletion.
-    ensures readied { transitioned (assimilated (ready two_unneeded) sending) sending ≡ two_may_go }
+    ensures readied { transitioned (assimilated (ready two_unneeded) sending) sending
+        ≡ two_may_go }
     // The file deleter empties them.
     ensures emptied { emptied one_may_go ≡ one_emptied }
     // A second before the least age the workunit may not be purged.

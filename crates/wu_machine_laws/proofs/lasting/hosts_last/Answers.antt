@@ -1,5 +1,5 @@
-use Rattle.wu_machine_laws.proofs.LastingLaws.{hosts_last}
+use Rattle.wu_machine_laws.proofs.LastingLaws.{continues_on}
 use Rattle.wu_machine_laws.proofs.lasting.hosts_last.Goals as goal
 
 pub returns : goal.returns
-returns c = hosts_last
+returns c world requests values sound k d low j e here same = (continues_on world requests values sound k d low j e here same).hosts

@@ -1,5 +1,5 @@
-use Rattle.wu_machine_laws.proofs.LastingLaws.{given_up_lasts}
+use Rattle.wu_machine_laws.proofs.LastingLaws.{continues_on}
 use Rattle.wu_machine_laws.proofs.lasting.what_is_given_up_stays_so.Goals as goal
 
 pub returns : goal.returns
-returns c = given_up_lasts
+returns c world requests values sound k d low j e here same = (continues_on world requests values sound k d low j e here same).given_up
