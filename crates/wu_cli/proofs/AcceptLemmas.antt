@@ -14,14 +14,11 @@ use Rattle.wu_passes.specs.Standing.{FaultsOnlyGrow}
 use Rattle.wu_arguments.specs.declared.action.Action.{Action}
 use Rattle.wu_arguments.specs.declared.action.Action.TheVariants.{Commands, Look, Refused}
 use Rattle.wu_arguments.specs.declared.refusal.Refusal.{Refusal}
-use Rattle.wu_arguments.specs.declared.script.Mode.{Mode}
-use Rattle.wu_arguments.specs.declared.script.Mode.TheVariants.{Once, Repeated, Tried}
 use Rattle.wu_arguments.specs.declared.step.LineFault.{LineFault}
 use Rattle.wu_arguments.specs.declared.step.Script.{Script}
-use Rattle.wu_arguments.specs.declared.step.Step.{Step}
 use Rattle.wu_cli.specs.Performing.{Performs}
 use Rattle.wu_cli.specs.Repeating.{commands_of_steps, unrolled}
-use Rattle.wu_cli.specs.Trying.{PerformsBy}
+use Rattle.wu_cli.specs.Trying.{PerformsRan, RanStep}
 use Rattle.wu_cli.specs.Scripting.{PerformsEach, PerformsSteps}
 use Rattle.wu_cli.specs.Exports.{SaysOfExport}
 use Rattle.wu_cli.specs.Hearing.{Hears}
@@ -30,7 +27,7 @@ use Rattle.wu_cli.specs.Sessions.{Accepts, AnswersEach, AnswersHeard, DoesAsked,
 use Rattle.wu_cli.specs.declared.line_trouble.LineTrouble.{LineTrouble}
 use Rattle.wu_cli.proofs.ActionLemmas.{answer_both, world_both}
 use Rattle.wu_cli.proofs.ScriptLemmas.{each_done, each_goes, each_over, script_clean}
-use Rattle.wu_cli.proofs.TryLemmas.{by_clean}
+use Rattle.wu_cli.proofs.TryLemmas.{ran_clean, ran_performs}
 
 -- A session that goes on has not ended.
 ends_never : (told : Result (Unit {0}) Fault) (done : Result Bool LineTrouble) (cut : Bool) → is_cut done ≡ cut → ends_with told true done ≡ None → ⊥
@@ -69,28 +66,28 @@ module _ {S W : Type 0} {store : Ghosts S} (contents : W → Option (List ℕ)) 
       accepts_none new world (record { is_project = over.is_project; version = sees.version ∙ over.version; goes = sees.goes clean world over.goes })
   one_accepts old new out_old out_new (Refused why) end kept going still clean world over = accepts_none new world (subst (λ p. IsOver p world) (sym kept.0) over)
 
-  by_accepts : (old new : Project S store) (out_old out_new : W) (mode : Mode) (action : Action) (end : Option Fault) → PerformsBy contents mode old new out_old out_new action end
+  ran_accepts : (old new : Project S store) (out_old out_new : W) (ran : RanStep) (end : Option Fault) → PerformsRan contents ran old new out_old out_new end
       → IsSessionOpen old → IsSessionOpen new → HasCleanDisk (state_of new) → (world : World) → IsOver old world → Accepts world new
-  by_accepts old new out_old out_new Once action end does = one_accepts old new out_old out_new action end does
-  by_accepts old new out_old out_new Repeated action end does = one_accepts old new out_old out_new action end does
-  by_accepts old new out_old out_new Tried action end tries = one_accepts old new out_old tries.out_done action tries.told tries.does
+  ran_accepts old new out_old out_new ran end does =
+      let (out_done, told, did) = ran_performs contents old new out_old out_new ran end does in
+      one_accepts old new out_old out_done ran.step.action told did
 
-  each_accepts : (old new : Project S store) (out_old out_new : W) (steps : List Step) → PerformsEach contents old new out_old out_new steps
+  each_accepts : (old new : Project S store) (out_old out_new : W) (steps : List RanStep) → PerformsEach contents old new out_old out_new steps
       → IsSessionOpen old → HasCleanDisk (state_of new) → (world : World) → IsOver old world → Accepts world new
   each_accepts old new out_old out_new steps each going clean world over =
       let done = each_done contents old new out_old out_new steps each going clean world (over_shows old world over) in
       record { commands = commands_of_steps world steps; answers = done.0; answered = done.1; over = each_over contents old new out_old out_new steps each going clean world over }
 
   -- Of steps, also if one ended with a fault.
-  steps_accept : (old new : Project S store) (out_old out_new : W) (steps : List Step) (end : Option LineFault) → PerformsSteps contents old new out_old out_new steps end
+  steps_accept : (old new : Project S store) (out_old out_new : W) (steps : List RanStep) (end : Option LineFault) → PerformsSteps contents old new out_old out_new steps end
       → IsSessionOpen old → IsSessionOpen new → HasCleanDisk (state_of new) → (world : World) → IsOver old world → Accepts world new
   steps_accept old new out_old out_new steps None each going still clean world over = each_accepts old new out_old out_new steps each going clean world over
   steps_accept old new out_old out_new steps (Some end) until going still clean world over =
-      let grows = by_clean contents until.mid new until.out_mid out_new until.last.mode until.last.action (Some end.fault) until.ends in
+      let grows = ran_clean contents until.mid new until.out_mid out_new until.last (Some end.fault) until.ends in
       let before : HasCleanDisk (state_of until.mid) = omega (arith, grows, clean) in
       let front = each_accepts old until.mid out_old until.out_mid until.before until.each going before world over in
       let opened = each_goes contents old until.mid out_old until.out_mid until.before until.each going in
-      accepts_both until.mid new world front (by_accepts until.mid new until.out_mid out_new until.last.mode until.last.action (Some end.fault) until.ends opened still clean (fold_steps world (map request_of front.commands)) front.over)
+      accepts_both until.mid new world front (ran_accepts until.mid new until.out_mid out_new until.last (Some end.fault) until.ends opened still clean (fold_steps world (map request_of front.commands)) front.over)
 
   module _ (gives : List ℕ → ℕ → Option (List ℕ) → Type 0) (exports : SaysOfExport) (db : List ℕ) where
     asked_clean : (old new : Project S store) (out_old out_new : W) (asked : Result Script Refusal) (done : Result Bool LineTrouble) → DoesAsked contents gives exports db old new out_old out_new asked done → FaultsOnlyGrow (state_of old) (state_of new)
@@ -104,7 +101,7 @@ module _ {S W : Type 0} {store : Ghosts S} (contents : W → Option (List ℕ)) 
     asked_accepts : (old new : Project S store) (out_old out_new : W) (asked : Result Script Refusal) (done : Result Bool LineTrouble) → DoesAsked contents gives exports db old new out_old out_new asked done
         → IsSessionOpen old → IsSessionOpen new → HasCleanDisk (state_of new) → (world : World) → IsOver old world → Accepts world new
     asked_accepts old new out_old out_new (Ok script) done (end, out_mid, does, then) going still clean world over =
-        steps_accept old new out_old out_mid (unrolled world script.steps) end (does.does.over going clean world (over_shows old world over)) going still clean world over
+        steps_accept old new out_old out_mid (unrolled world does.does.as_ran) end (does.does.over going clean world (over_shows old world over)) going still clean world over
     asked_accepts old new out_old out_new (Err why) done (is, same, unwritten) going still clean world over =
         subst (λ p. Accepts world p) (sym same) (accepts_none old world over)
 

@@ -26,8 +26,7 @@ use Rattle.wu_passes.proofs.StandingLemmas.{shows_back}
 use Rattle.wu_passes.specs.Projects.{IsOver, IsSessionOpen, has_ended, older_version, ShowsProject, state_of}
 use Rattle.wu_machine.specs.Requests.{Request}
 use Rattle.wu_passes.specs.Standing.{GoesOn, HasEnded, FaultsOnlyGrow}
-use Rattle.wu_cli.specs.Performing.{as_result, Performs}
-use Rattle.wu_cli.specs.Repeating.{commands_of_action}
+use Rattle.wu_cli.specs.Performing.{as_result, commands_of_action, Performs}
 use Rattle.wu_cli.specs.Scripting.{so_far}
 use Rattle.wu_arguments.specs.declared.action.Action.{Action}
 use Rattle.wu_arguments.specs.declared.action.Action.TheVariants.{Commands, Look, Refused}

@@ -6,7 +6,7 @@ use Rattle.std.specs.Io.KnownBytes.{Appends}
 use Rattle.sqlite.specs.State.{HasCleanDisk}
 use Rattle.sqlite.specs.Store.{Ghosts}
 use Rattle.wu_core.specs.declared.fault.Fault.{Fault}
-use Rattle.wu_core.specs.declared.fault.Fault.TheVariants.{OldSchema, Output}
+use Rattle.wu_core.specs.declared.fault.Fault.TheVariants.{NotAProject, OldSchema, Output}
 use Rattle.wu_core.specs.World.{World}
 use Rattle.wu_machine.specs.declared.command.Answer.{Answer}
 use Rattle.wu_machine.specs.declared.command.Command.{Command}
@@ -31,15 +31,16 @@ use Rattle.wu_arguments.specs.declared.script.Mode.{Mode}
 use Rattle.wu_arguments.specs.declared.script.Mode.TheVariants.{Once, Repeated, Tried}
 use Rattle.wu_arguments.specs.declared.step.LineFault.{LineFault}
 use Rattle.wu_arguments.specs.declared.step.Step.{Step}
-use Rattle.wu_cli.specs.Performing.{as_result, Performs}
-use Rattle.wu_cli.specs.Printing.{printed_accepted, printed_by, printed_replies, printed_reply, printed_steps, PrintsAction, PrintsSteps, shown_text}
+use Rattle.wu_cli.specs.Endings.{fault_line}
+use Rattle.wu_cli.specs.Performing.{as_result, commands_of_action, Performs}
+use Rattle.wu_cli.specs.Printing.{printed_accepted, printed_as, printed_by, printed_replies, printed_reply, printed_steps, PrintsAction, PrintsSteps, shown_text}
 use Rattle.wu_cli.specs.Repeating.{commands_of_step, commands_of_steps, unrolled, world_behind}
 use Rattle.wu_cli.specs.Scripting.{PerformsEach, PerformsScript, PerformsSteps}
-use Rattle.wu_cli.specs.Trying.{accepted, EndsTried, is_refusal, PassesOver, PerformsBy, refusal_line, refusal_of}
+use Rattle.wu_cli.specs.Trying.{accepted, EndsTried, is_refusal, PassesOver, PerformsAs, PerformsBy, PerformsRan, RanStep, refusal_line, refusal_of, Stops}
 use Rattle.wu_cli.specs.Working.{line_outcome, script_outcome}
 use Rattle.wu_cli.proofs.ActionLemmas.{shown_present, world_both, world_of}
 use Rattle.wu_cli.proofs.ScriptLemmas.{each_clean, each_done, each_goes}
-use Rattle.wu_cli.proofs.TryLemmas.{accepted_front, all_accepted, by_clean, by_done, by_goes, not_output, refused_as, refused_at, view_refused}
+use Rattle.wu_cli.proofs.TryLemmas.{accepted_front, all_accepted, not_output, ran_clean, ran_done, ran_goes, refused_as, refused_at, view_refused}
 
 -- ---- texts of answers
 
@@ -59,12 +60,12 @@ replies_both world (x ∷ xs) ys =
     ap (λ text. printed_reply (reply world (request_of x)) ++ text) (replies_both (step world (request_of x)) xs ys)
     ∙ sym (append_assoc (printed_reply (reply world (request_of x))) (printed_replies (step world (request_of x)) xs) (printed_replies (world_of (step world (request_of x)) xs) ys))
 
-steps_both : (world : World) (xs ys : List Step) → printed_steps world (xs ++ ys) ≡ printed_steps world xs ++ printed_steps (world_of world (commands_of_steps world xs)) ys
+steps_both : (world : World) (xs ys : List RanStep) → printed_steps world (xs ++ ys) ≡ printed_steps world xs ++ printed_steps (world_of world (commands_of_steps world xs)) ys
 steps_both world [] ys = refl
 steps_both world (x ∷ xs) ys =
     let mine = commands_of_step world x in
     let mid = world_behind world x in
-    let text = printed_by x.mode world x.action in
+    let text = printed_as x.stop x.step.mode world x.step.action in
     let rest : printed_steps mid (xs ++ ys) ≡ printed_steps mid xs ++ printed_steps (world_of world (mine ++ commands_of_steps mid xs)) ys =
     steps_both mid xs ys ∙ ap (λ (w : World). printed_steps mid xs ++ printed_steps w ys) (sym (world_both world mine (commands_of_steps mid xs))) in
     ap (λ more. text ++ more) rest ∙ sym (append_assoc text (printed_steps mid xs) (printed_steps (world_of world (mine ++ commands_of_steps mid xs)) ys))
@@ -173,16 +174,14 @@ module _ {S W : Type 0} {store : Ghosts S} (contents : W → Option (List ℕ)) 
 
 module _ {S W : Type 0} {store : Ghosts S} (contents : W → Option (List ℕ)) (old new : Project S store) where
   -- the line of a refusal behind the answers
-  passed_prints : (out_old out_done out_new : W) (world : World) (action : Action) (fault : Fault) (end : Option Fault) → Appends (contents out_old) (contents out_done) (printed_accepted world action)
-      → refusal_of world action ≡ Some fault → PassesOver contents out_done out_new fault end → WritesTo contents out_old out_new (printed_by Tried world action) (line_outcome end)
-  passed_prints out_old out_done out_new world action fault None whole is passed =
-      Appends-trans (contents out_old) (contents out_done) (contents out_new) (printed_accepted world action) (refusal_line (refusal_of world action)) whole
-      (subst (λ r. Appends (contents out_done) (contents out_new) (refusal_line r)) (sym is) passed)
-  passed_prints out_old out_done out_new world action fault (Some end) whole is passed =
-      AppendsFront-after (contents out_old) (contents out_done) (contents out_new) (printed_accepted world action) (refusal_line (refusal_of world action)) whole
-      (subst (λ r. AppendsFront (contents out_done) (contents out_new) (refusal_line r)) (sym is) passed.1)
+  passed_prints : (out_old out_done out_new : W) (text : List ℕ) (fault : Fault) (end : Option Fault) → Appends (contents out_old) (contents out_done) text → PassesOver contents out_done out_new fault end
+      → WritesTo contents out_old out_new (text ++ fault_line fault) (line_outcome end)
+  passed_prints out_old out_done out_new text fault None whole passed =
+      Appends-trans (contents out_old) (contents out_done) (contents out_new) text (fault_line fault) whole passed
+  passed_prints out_old out_done out_new text fault (Some end) whole passed =
+      AppendsFront-after (contents out_old) (contents out_done) (contents out_new) text (fault_line fault) whole passed.1
 
-  tried_prints : (out_old out_done out_new : W) (action : Action) (told end : Option Fault) → Performs contents old new out_old out_done action told → EndsTried contents out_done out_new told end
+  tried_prints : (out_old out_done out_new : W) (action : Action) (told end : Option Fault) → Performs contents old new out_old out_done action told → EndsTried contents out_done out_new action told end
       → IsSessionOpen old → HasCleanDisk (state_of new) → (world : World) → ShowsProject old world → WritesTo contents out_old out_new (printed_by Tried world action) (line_outcome end)
   tried_prints out_old out_done out_new action None end does (none, same) going clean world shows =
       let no_line : printed_accepted world action ++ [] ≡ printed_by Tried world action =
@@ -193,26 +192,48 @@ module _ {S W : Type 0} {store : Ghosts S} (contents : W → Option (List ℕ)) 
       (accepted_prints contents old new out_old out_done action does going clean world shows)) in
       subst (λ e. WritesTo contents out_old out_new (printed_by Tried world action) (line_outcome e)) (sym none) whole
   tried_prints out_old out_done out_new action (Some fault) end does (inl (refused, passed)) going clean world shows =
-      passed_prints out_old out_done out_new world action fault end
-      (refused_prints contents old new out_old out_done action fault does refused going clean world shows)
-      (refused_as contents old new out_old out_done action fault does refused going clean world shows) passed
-  tried_prints out_old out_done out_new action (Some fault) end does (inr (other, is, same)) going clean world shows =
+      subst (λ r. WritesTo contents out_old out_new (printed_accepted world action ++ refusal_line r) (line_outcome end))
+      (sym (refused_as contents old new out_old out_done action fault does refused going clean world shows))
+      (passed_prints out_old out_done out_new (printed_accepted world action) fault end (refused_prints contents old new out_old out_done action fault does refused going clean world shows) passed)
+  tried_prints out_old out_done out_new action (Some fault) end does (inr (other, no_stop, is, same)) going clean world shows =
       let front : AppendsFront (contents out_old) (contents out_new) (printed_by Tried world action) =
       subst (λ o. AppendsFront (contents out_old) (contents o) (printed_by Tried world action)) (sym same)
       (AppendsFront-longer (contents out_old) (contents out_done) (printed_accepted world action) (refusal_line (refusal_of world action))
       (ended_prints contents old new out_old out_done action fault does going clean world shows)) in
       subst (λ e. WritesTo contents out_old out_new (printed_by Tried world action) (line_outcome e)) (sym is) front
 
-  pub by_prints : (out_old out_new : W) (mode : Mode) (action : Action) (end : Option Fault) → PerformsBy contents mode old new out_old out_new action end
+  by_prints : (out_old out_new : W) (mode : Mode) (action : Action) (end : Option Fault) → PerformsBy contents mode old new out_old out_new action end
       → IsSessionOpen old → HasCleanDisk (state_of new) → (world : World) → ShowsProject old world → WritesTo contents out_old out_new (printed_by mode world action) (line_outcome end)
   by_prints out_old out_new Once action end does = one_prints contents old new out_old out_new action end does
   by_prints out_old out_new Repeated action end does = one_prints contents old new out_old out_new action end does
   by_prints out_old out_new Tried action end tries = tried_prints out_old tries.out_done out_new action tries.told end tries.does tries.ends
 
+  -- one that the store stopped: the answers to the commands before the refused one
+  pub stop_prints : (out_old out_new : W) (mode : Mode) (action : Action) (count : ℕ) (end : Option Fault) (stops : Stops contents old new out_old out_new mode action count end)
+      → IsSessionOpen old → HasCleanDisk (state_of new) → (world : World) → ShowsProject old world
+      → Appends (contents out_old) (contents stops.out_done) (printed_replies world (take count (commands_of_action action)))
+  stop_prints out_old out_new mode action count end stops going clean world shows =
+      let (answers, written, drives, drives_from) = stops.runs.answers in
+      let driven = drives_from going clean world shows in
+      subst (Appends (contents out_old) (contents stops.out_done)) (replies_are world (take count (commands_of_action action)) answers driven.answered)
+      (written.whole (λ cut. absurd (let no : ◌≡◌ {A = Option Fault} (Some NotAProject) (Some Output) = cut in cc)))
+
+  as_prints : (out_old out_new : W) (stop : Option ℕ) (mode : Mode) (action : Action) (end : Option Fault) → PerformsAs contents stop mode old new out_old out_new action end
+      → IsSessionOpen old → HasCleanDisk (state_of new) → (world : World) → ShowsProject old world → WritesTo contents out_old out_new (printed_as stop mode world action) (line_outcome end)
+  as_prints out_old out_new None mode action end does going clean world shows = by_prints out_old out_new mode action end does going clean world shows
+  as_prints out_old out_new (Some count) mode action end stops going clean world shows =
+      passed_prints out_old stops.out_done out_new (printed_replies world (take count (commands_of_action action))) NotAProject end
+      (stop_prints out_old out_new mode action count end stops going clean world shows) stops.passed
+
+  ran_prints : (out_old out_new : W) (ran : RanStep) (end : Option Fault) → PerformsRan contents ran old new out_old out_new end
+      → IsSessionOpen old → HasCleanDisk (state_of new) → (world : World) → ShowsProject old world
+      → WritesTo contents out_old out_new (printed_as ran.stop ran.step.mode world ran.step.action) (line_outcome end)
+  ran_prints out_old out_new ran end does = as_prints out_old out_new ran.stop ran.step.mode ran.step.action end does
+
 -- ---- all steps
 
 module _ {S W : Type 0} {store : Ghosts S} (contents : W → Option (List ℕ)) where
-  pub each_prints : (old new : Project S store) (out_old out_new : W) (steps : List Step) → PerformsEach contents old new out_old out_new steps
+  pub each_prints : (old new : Project S store) (out_old out_new : W) (steps : List RanStep) → PerformsEach contents old new out_old out_new steps
       → IsSessionOpen old → HasCleanDisk (state_of new) → (world : World) → ShowsProject old world
       → Appends (contents out_old) (contents out_new) (printed_steps world steps)
   unfolding PerformsEach
@@ -221,26 +242,26 @@ module _ {S W : Type 0} {store : Ghosts S} (contents : W → Option (List ℕ)) 
   each_prints old new out_old out_new (one ∷ steps) each going clean world shows =
       let rest_clean = each_clean contents each.0 new each.1 out_new steps each.3 in
       let before : HasCleanDisk (state_of each.0) = omega (arith, rest_clean, clean) in
-      let first = by_prints contents old each.0 out_old each.1 one.mode one.action None each.2 going before world shows in
-      let done = by_done contents old each.0 out_old each.1 one.mode one.action each.2 going before world shows in
-      let still = by_goes contents old each.0 out_old each.1 one.mode one.action each.2 going in
+      let first = ran_prints contents old each.0 out_old each.1 one None each.2 going before world shows in
+      let done = ran_done contents old each.0 out_old each.1 one each.2 going before world shows in
+      let still = ran_goes contents old each.0 out_old each.1 one each.2 going in
       let rest = each_prints each.0 new each.1 out_new steps each.3 still clean (world_behind world one) done.2 in
-      Appends-trans (contents out_old) (contents each.1) (contents out_new) (printed_by one.mode world one.action) (printed_steps (world_behind world one) steps) first rest
+      Appends-trans (contents out_old) (contents each.1) (contents out_new) (printed_as one.stop one.step.mode world one.step.action) (printed_steps (world_behind world one) steps) first rest
 
-  steps_print : (old new : Project S store) (out_old out_new : W) (steps : List Step) (end : Option LineFault) → PerformsSteps contents old new out_old out_new steps end
+  steps_print : (old new : Project S store) (out_old out_new : W) (steps : List RanStep) (end : Option LineFault) → PerformsSteps contents old new out_old out_new steps end
       → IsSessionOpen old → HasCleanDisk (state_of new) → (world : World) → ShowsProject old world
       → WritesTo contents out_old out_new (printed_steps world steps) (script_outcome end)
   steps_print old new out_old out_new steps None each going clean world shows = each_prints old new out_old out_new steps each going clean world shows
   steps_print old new out_old out_new steps (Some end) until going clean world shows =
-      let last_clean = by_clean contents until.mid new until.out_mid out_new until.last.mode until.last.action (Some end.fault) until.ends in
+      let last_clean = ran_clean contents until.mid new until.out_mid out_new until.last (Some end.fault) until.ends in
       let before : HasCleanDisk (state_of until.mid) = omega (arith, last_clean, clean) in
       let firsts = each_prints old until.mid out_old until.out_mid until.before until.each going before world shows in
       let done = each_done contents old until.mid out_old until.out_mid until.before until.each going before world shows in
       let still = each_goes contents old until.mid out_old until.out_mid until.before until.each going in
       let mid = world_of world (commands_of_steps world until.before) in
-      let last = by_prints contents until.mid new until.out_mid out_new until.last.mode until.last.action (Some end.fault) until.ends still clean mid done.2 in
+      let last = ran_prints contents until.mid new until.out_mid out_new until.last (Some end.fault) until.ends still clean mid done.2 in
       let so_long = printed_steps world until.before in
-      let its = printed_by until.last.mode mid until.last.action in
+      let its = printed_as until.last.stop until.last.step.mode mid until.last.step.action in
       let behind = printed_steps (world_behind mid until.last) until.after in
       let whole : printed_steps world steps ≡ (so_long ++ its) ++ behind =
       ap (λ ss. printed_steps world ss) until.order ∙ steps_both world until.before (until.last ∷ until.after) ∙ sym (append_assoc so_long its behind) in
@@ -251,4 +272,4 @@ module _ {S W : Type 0} {store : Ghosts S} (contents : W → Option (List ℕ)) 
   pub script_prints : (old new : Project S store) (out_old out_new : W) (steps : List Step) (end : Option LineFault) → PerformsScript contents old new out_old out_new steps end
       → PrintsSteps contents old new out_old out_new steps end
   script_prints old new out_old out_new steps end it going clean world shows =
-      steps_print old new out_old out_new (unrolled world steps) end (it.over going clean world shows) going clean world shows
+      (it.as_ran, it.are, steps_print old new out_old out_new (unrolled world it.as_ran) end (it.over going clean world shows) going clean world shows)

@@ -1,5 +1,5 @@
 -- From round to round of a repeated step, and from step to step of a script.
-use Rattle.std.proofs.Common.{◌≡◌, ◌≢◌, ◌∙◌, ℕ, zero, suc, ◌+◌, ◌-◌, ◌<◌, ◌≤◌, Bool, true, false, if◌then◌else◌, List, [], ◌∷◌, ◌++◌, take, replicate, Option, Some, None, refl, sym, ap, subst, arith, append_assoc, append-nil}
+use Rattle.std.proofs.Common.{◌≡◌, ◌∙◌, ℕ, zero, suc, ◌+◌, ◌-◌, ◌<◌, ◌≤◌, Bool, true, false, if◌then◌else◌, List, [], ◌∷◌, ◌++◌, map, take, replicate, Option, Some, None, refl, sym, ap, subst, arith, append_assoc, append-nil}
 use Rattle.std.proofs.lemmas.List.{replicate_more}
 use Rattle.sqlite.specs.State.{HasCleanDisk}
 use Rattle.sqlite_trees.specs.declared.store.Store.{Ghosts}
@@ -10,17 +10,18 @@ use Rattle.wu_drive.specs.declared.runs.Run.{Run}
 use Rattle.wu_machine.specs.declared.command.Command.{Command}
 use Rattle.wu_passes.specs.declared.project.Project.{Project}
 use Rattle.wu_passes.specs.Projects.{IsSessionOpen, ShowsProject, state_of}
+use Rattle.wu_arguments.specs.declared.action.Action.{Action}
 use Rattle.wu_arguments.specs.declared.action.Action.TheVariants.{Commands}
-use Rattle.wu_arguments.specs.declared.script.Mode.{Mode}
-use Rattle.wu_arguments.specs.declared.script.Mode.TheVariants.{Once, Repeated, Tried}
+use Rattle.wu_arguments.specs.declared.script.Mode.TheVariants.{Repeated, Tried}
 use Rattle.wu_arguments.specs.declared.step.LineFault.{LineFault}
 use Rattle.wu_arguments.specs.declared.step.Step.{Step}
-use Rattle.wu_cli.specs.Trying.{PerformsBy}
-use Rattle.wu_cli.specs.Repeating.{AreRepeated, commands_of_step, commands_of_steps, fill_limit, is_full, most_rounds, rounds, rounds_of, unrolled, world_behind, world_behind_steps}
-use Rattle.wu_cli.specs.Scripting.{PerformsEach, PerformsScript, PerformsStep, PerformsSteps, PerformsUntil, TellsFull}
-use Rattle.wu_cli.proofs.ActionLemmas.{world_both, world_of}
-use Rattle.wu_cli.proofs.ScriptLemmas.{commands_both, each_both, each_clean, each_done, each_goes, each_more, each_none, until_both}
-use Rattle.wu_cli.proofs.TryLemmas.{by_clean}
+use Rattle.wu_cli.specs.Performing.{Performs}
+use Rattle.wu_cli.specs.Trying.{PerformsRan, RanStep, step_as}
+use Rattle.wu_cli.specs.declared.repeating.TheConstants.{MOST_ROUNDS}
+use Rattle.wu_cli.specs.Repeating.{AreRepeated, MayStop, RanAs, commands_of_step, commands_of_steps, fill_limit, is_full, most_rounds, rounds, rounds_of, unrolled, world_behind, world_behind_steps}
+use Rattle.wu_cli.specs.Scripting.{line_fault, PerformsEach, PerformsScript, PerformsStep, PerformsSteps, PerformsUntil, TellsFull}
+use Rattle.wu_cli.proofs.ActionLemmas.{one_clean, world_both, world_of}
+use Rattle.wu_cli.proofs.ScriptLemmas.{commands_both, each_both, each_clean, each_done, each_goes, each_more, each_none, steps_clean, until_both}
 
 -- ---- whether there may be more to do
 
@@ -33,11 +34,11 @@ tells_full old new commands run handled counts all none going clean world shows 
 
 -- ---- the steps that they come to
 
-steps_behind : (world : World) (xs ys : List Step) → world_behind_steps world (xs ++ ys) ≡ world_behind_steps (world_behind_steps world xs) ys
+steps_behind : (world : World) (xs ys : List RanStep) → world_behind_steps world (xs ++ ys) ≡ world_behind_steps (world_behind_steps world xs) ys
 steps_behind world xs ys =
     ap (λ cs. world_of world cs) (commands_both world xs ys) ∙ world_both world (commands_of_steps world xs) (commands_of_steps (world_behind_steps world xs) ys)
 
-unrolled_both : (world : World) (xs ys : List Step) → unrolled world (xs ++ ys) ≡ unrolled world xs ++ unrolled (world_behind_steps world (unrolled world xs)) ys
+unrolled_both : (world : World) (xs ys : List RanStep) → unrolled world (xs ++ ys) ≡ unrolled world xs ++ unrolled (world_behind_steps world (unrolled world xs)) ys
 unrolled_both world [] ys = refl
 unrolled_both world (x ∷ xs) ys =
     let here = replicate (rounds world x) x in
@@ -45,28 +46,43 @@ unrolled_both world (x ∷ xs) ys =
     ap (λ l. here ++ l) (unrolled_both mid xs ys ∙ ap (λ w. unrolled mid xs ++ unrolled w ys) (sym (steps_behind world here (unrolled mid xs))))
     ∙ sym (append_assoc here (unrolled mid xs) (unrolled (world_behind_steps world (here ++ unrolled mid xs)) ys))
 
-repeated_both : (xs ys first second : List Step) → AreRepeated xs first → AreRepeated ys second → AreRepeated (xs ++ ys) (first ++ second)
+repeated_both : (xs ys first second : List RanStep) → AreRepeated xs first → AreRepeated ys second → AreRepeated (xs ++ ys) (first ++ second)
 repeated_both [] ys first second one two = subst (λ l. AreRepeated ys (l ++ second)) (sym one) two
 repeated_both (x ∷ xs) ys first second (times, more, order, some, once, rest) two =
     (times, more ++ second, ap (λ l. l ++ second) order ∙ append_assoc (replicate times x) more second, some, once, repeated_both xs ys more second rest two)
 
--- a step is done
-some_rounds : (mode : Mode) → 1 ≤ most_rounds mode
-some_rounds Once = omega arith
-some_rounds Repeated = omega arith
-some_rounds Tried = omega arith
-
 -- a step that is not repeated is done once
-one_round : (mode : Mode) → mode ≢ Repeated → most_rounds mode ≡ 1
-one_round Once single = refl
-one_round Repeated single = absurd (single refl)
-one_round Tried single = refl
+one_round : (world : World) (ran : RanStep) → most_rounds ran.step.mode ≡ 1 → rounds world ran ≡ 1
+one_round world ran once = ap (rounds_of world ran) once ∙ no_more (is_full world ran.step.action)
+  where
+    no_more : (full : Bool) → suc (if full then zero else zero) ≡ 1
+    no_more true = refl
+    no_more false = refl
 
-repeated_self : (steps : List Step) → AreRepeated steps steps
+-- ---- the steps as they ran
+
+abbrev pub unstopped : Step → RanStep
+unstopped step = step_as step None
+
+-- a tried step may be stopped
+pub may_stop : (step : Step) (stop : Option ℕ) → step.mode ≡ Tried → MayStop step stop
+may_stop step None tried = tt
+may_stop step (Some count) tried = tried
+
+pub unbegun : (steps : List Step) → RanAs steps (map unstopped steps)
+unbegun [] = refl
+unbegun (step ∷ steps) = (None, map unstopped steps, refl, tt, unbegun steps)
+
+ran_both : (xs ys : List Step) (first second : List RanStep) → RanAs xs first → RanAs ys second → RanAs (xs ++ ys) (first ++ second)
+ran_both [] ys first second one two = subst (λ l. RanAs ys (l ++ second)) (sym one) two
+ran_both (x ∷ xs) ys first second (stop, more, order, may, rest) two =
+    (stop, more ++ second, ap (λ l. l ++ second) order, may, ran_both xs ys more second rest two)
+
+repeated_self : (steps : List RanStep) → AreRepeated steps steps
 repeated_self [] = refl
 repeated_self (step ∷ steps) = (1, steps, refl, omega arith, λ _. refl, repeated_self steps)
 
-replicate_split : (i more : ℕ) (step : Step) → replicate (i + suc more) step ≡ replicate i step ++ step ∷ replicate more step
+replicate_split : (i more : ℕ) (step : RanStep) → replicate (i + suc more) step ≡ replicate i step ++ step ∷ replicate more step
 replicate_split zero more step =
     let same : zero + suc more ≡ suc more = omega arith in
     ap (λ n. replicate n step) same
@@ -77,122 +93,130 @@ replicate_split (suc i) more step =
 -- ---- round by round
 
 -- how often a step is still to be done behind so many rounds
-abbrev pub AreLeft : World → Step → ℕ → Type 0
+abbrev pub AreLeft : World → RanStep → ℕ → Type 0
 AreLeft world step i =
-    rounds world step ≡ i + rounds_of (world_behind_steps world (replicate i step)) step (most_rounds step.mode - i)
+    rounds world step ≡ i + rounds_of (world_behind_steps world (replicate i step)) step (most_rounds step.step.mode - i)
 
 -- how often behind one round more
-abbrev left_behind : World → Step → ℕ → ℕ
+abbrev left_behind : World → RanStep → ℕ → ℕ
 left_behind world step i =
     let here = world_behind_steps world (replicate i step) in
-    if is_full here step.action then rounds_of (world_behind here step) step (most_rounds step.mode - (i + 1)) else zero
+    if is_full here step.step.action then rounds_of (world_behind here step) step (most_rounds step.step.mode - (i + 1)) else zero
 
-all_left : (world : World) (step : Step) → AreLeft world step 0
+all_left : (world : World) (step : RanStep) → AreLeft world step 0
 all_left world step =
-    let same : most_rounds step.mode ≡ most_rounds step.mode - 0 = omega arith in
-    let here : rounds world step ≡ rounds_of world step (most_rounds step.mode - 0) = ap (λ m. rounds_of world step m) same in
+    let same : most_rounds step.step.mode ≡ most_rounds step.step.mode - 0 = omega arith in
+    let here : rounds world step ≡ rounds_of world step (most_rounds step.step.mode - 0) = ap (λ m. rounds_of world step m) same in
     omega (arith, here)
 
-one_more : (world : World) (step : Step) (i : ℕ) → i < most_rounds step.mode → AreLeft world step i → rounds world step ≡ i + suc (left_behind world step i)
+one_more : (world : World) (step : RanStep) (i : ℕ) → i < most_rounds step.step.mode → AreLeft world step i → rounds world step ≡ i + suc (left_behind world step i)
 one_more world step i within left =
-    let next : most_rounds step.mode - i ≡ suc (most_rounds step.mode - (i + 1)) = omega (arith, within) in
+    let next : most_rounds step.step.mode - i ≡ suc (most_rounds step.step.mode - (i + 1)) = omega (arith, within) in
     left ∙ ap (λ m. i + rounds_of (world_behind_steps world (replicate i step)) step m) next
 
-next_behind : (world : World) (step : Step) (i : ℕ) → world_behind_steps world (replicate (i + 1) step) ≡ world_behind (world_behind_steps world (replicate i step)) step
+next_behind : (world : World) (step : RanStep) (i : ℕ) → world_behind_steps world (replicate (i + 1) step) ≡ world_behind (world_behind_steps world (replicate i step)) step
 next_behind world step i =
     ap (λ ss. world_behind_steps world ss) (sym (replicate_more i step)) ∙ steps_behind world (replicate i step) (step ∷ [])
     ∙ ap (λ cs. world_of (world_behind_steps world (replicate i step)) cs) (append-nil (commands_of_step (world_behind_steps world (replicate i step)) step))
 
-left_next : (world : World) (step : Step) (i : ℕ) → i < most_rounds step.mode → AreLeft world step i → is_full (world_behind_steps world (replicate i step)) step.action ≡ true
+left_next : (world : World) (step : RanStep) (i : ℕ) → i < most_rounds step.step.mode → AreLeft world step i → is_full (world_behind_steps world (replicate i step)) step.step.action ≡ true
     → AreLeft world step (i + 1)
 left_next world step i within left full =
-    let rest : World → ℕ = λ w. rounds_of w step (most_rounds step.mode - (i + 1)) in
+    let rest : World → ℕ = λ w. rounds_of w step (most_rounds step.step.mode - (i + 1)) in
     let here : rounds world step ≡ i + suc (rest (world_behind_steps world (replicate (i + 1) step))) =
     one_more world step i within left
     ∙ ap (λ b. i + suc (if b then rest (world_behind (world_behind_steps world (replicate i step)) step) else zero)) full
     ∙ ap (λ w. i + suc (rest w)) (sym (next_behind world step i)) in
     omega (arith, here)
 
-left_none : (world : World) (step : Step) (i : ℕ) → i < most_rounds step.mode → AreLeft world step i → is_full (world_behind_steps world (replicate i step)) step.action ≡ false
+left_none : (world : World) (step : RanStep) (i : ℕ) → i < most_rounds step.step.mode → AreLeft world step i → is_full (world_behind_steps world (replicate i step)) step.step.action ≡ false
     → rounds world step ≡ i + 1
 left_none world step i within left full =
     let here = world_behind_steps world (replicate i step) in
     one_more world step i within left
-    ∙ ap (λ b. i + suc (if b then rounds_of (world_behind here step) step (most_rounds step.mode - (i + 1)) else zero)) full
+    ∙ ap (λ b. i + suc (if b then rounds_of (world_behind here step) step (most_rounds step.step.mode - (i + 1)) else zero)) full
 
-left_out : (world : World) (step : Step) (i : ℕ) → most_rounds step.mode ≤ i → i ≤ most_rounds step.mode → AreLeft world step i → rounds world step ≡ i
+left_out : (world : World) (step : RanStep) (i : ℕ) → most_rounds step.step.mode ≤ i → i ≤ most_rounds step.step.mode → AreLeft world step i → rounds world step ≡ i
 left_out world step i all within left =
-    let none : most_rounds step.mode - i ≡ 0 = omega (arith, all) in
+    let none : most_rounds step.step.mode - i ≡ 0 = omega (arith, all) in
     let here : rounds world step ≡ i + 0 = left ∙ ap (λ m. i + rounds_of (world_behind_steps world (replicate i step)) step m) none in
     omega (arith, here)
 
+-- a repeated step
+abbrev pub again : ℕ → Action → RanStep
+again number action = record { step = record { number = number; mode = Repeated; action = action }; stop = None }
+
 module _ {S W : Type 0} {store : Ghosts S} (contents : W → Option (List ℕ)) where
-  -- so many rounds of a step were done, and each was full
-  pub record HasRounds (old mid : Project S store) (out_old out_mid : W) (step : Step) (i : ℕ) : Type 0 where
-    pub each : PerformsEach contents old mid out_old out_mid (replicate i step)
+  -- so many rounds of a repeated step were done, and each was full
+  pub record HasRounds (old mid : Project S store) (out_old out_mid : W) (number : ℕ) (action : Action) (i : ℕ) : Type 0 where
+    pub each : PerformsEach contents old mid out_old out_mid (replicate i (again number action))
     pub left :
         IsSessionOpen old → HasCleanDisk (state_of mid) → (world : World) → ShowsProject old world
-        → AreLeft world step i
+        → AreLeft world (again number action) i
 
-  pub rounds_none : (old : Project S store) (out_old : W) (step : Step) → HasRounds old old out_old out_old step 0
-  rounds_none old out_old step = record {
+  pub rounds_none : (old : Project S store) (out_old : W) (number : ℕ) (action : Action) → HasRounds old old out_old out_old number action 0
+  rounds_none old out_old number action = record {
     each = each_none contents old out_old;
-    left = λ going clean world shows. all_left world step;
+    left = λ going clean world shows. all_left world (again number action);
   }
 
-  module _ (old mid new : Project S store) (out_old out_mid out_new : W) (step : Step) (i : ℕ) (within : i < most_rounds step.mode) (has : HasRounds old mid out_old out_mid step i) where
+  module _ (old mid new : Project S store) (out_old out_mid out_new : W) (number : ℕ) (action : Action) (i : ℕ) (within : i < MOST_ROUNDS) (has : HasRounds old mid out_old out_mid number action i) where
+    abbrev step : RanStep
+    step = again number action
+
     -- the next round was done
-    module _ (does : PerformsBy contents step.mode mid new out_mid out_new step.action None) (told : Bool) (tells : TellsFull mid new step.action None told) where
+    module _ (does : Performs contents mid new out_mid out_new action None) (told : Bool) (tells : TellsFull mid new action None told) where
       each_here : PerformsEach contents old new out_old out_new (replicate (i + 1) step)
       each_here = subst (λ l. PerformsEach contents old new out_old out_new l) (replicate_more i step)
           (each_more contents old mid new out_old out_mid out_new (replicate i step) step has.each does)
 
       was_clean : HasCleanDisk (state_of new) → HasCleanDisk (state_of mid)
-      was_clean clean = let kept = by_clean contents mid new out_mid out_new step.mode step.action None does in omega (arith, kept, clean)
+      was_clean clean = let kept = one_clean contents mid new out_mid out_new action None does in omega (arith, kept, clean)
 
       told_here : IsSessionOpen old → HasCleanDisk (state_of new) → (world : World) → ShowsProject old world
-          → told ≡ is_full (world_behind_steps world (replicate i step)) step.action
+          → told ≡ is_full (world_behind_steps world (replicate i step)) action
       told_here going clean world shows =
           let done = each_done contents old mid out_old out_mid (replicate i step) has.each going (was_clean clean) world shows in
           tells refl (each_goes contents old mid out_old out_mid (replicate i step) has.each going) clean (world_behind_steps world (replicate i step)) done.2
 
-      pub rounds_more : told ≡ true → HasRounds old new out_old out_new step (i + 1)
+      pub rounds_more : told ≡ true → HasRounds old new out_old out_new number action (i + 1)
       rounds_more full = record {
         each = each_here;
         left = λ going clean world shows.
             left_next world step i within (has.left going (was_clean clean) world shows) (sym (told_here going clean world shows) ∙ full);
       }
 
-      pub rounds_end : told ≡ false → PerformsStep contents old new out_old out_new step None
+      pub rounds_end : told ≡ false → PerformsStep contents old new out_old out_new step.step None
       rounds_end full = record {
+        stop = None;
+        may_stop = tt;
         times = i + 1;
         some = omega arith;
-        once = λ single. only_one single;
+        once = λ single. absurd (single refl);
         does = each_here;
         over = λ going clean world shows.
             subst (λ n. PerformsEach contents old new out_old out_new (replicate n step))
             (sym (left_none world step i within (has.left going (was_clean clean) world shows) (sym (told_here going clean world shows) ∙ full))) each_here;
       }
-        where
-          only_one : step.mode ≢ Repeated → i + 1 ≡ 1
-          only_one single = let most = one_round step.mode single in omega (arith, within, most)
 
     -- it ended with a fault
-    pub rounds_cut : (fault : Fault) → PerformsBy contents step.mode mid new out_mid out_new step.action (Some fault) → PerformsStep contents old new out_old out_new step (Some (record { number = step.number; fault = fault }))
+    pub rounds_cut : (fault : Fault) → Performs contents mid new out_mid out_new action (Some fault) → PerformsStep contents old new out_old out_new step.step (line_fault number (Some fault))
     rounds_cut fault does = record {
+      stop = None;
+      may_stop = tt;
       times = i + 1;
       some = omega arith;
-      once = λ single. let most = one_round step.mode single in omega (arith, within, most);
+      once = λ single. absurd (single refl);
       does = cut (replicate (i + 1) step) [] (sym (replicate_more i step));
       over = λ going clean world shows.
-          let kept = by_clean contents mid new out_mid out_new step.mode step.action (Some fault) does in
+          let kept = one_clean contents mid new out_mid out_new action (Some fault) does in
           let before : HasCleanDisk (state_of mid) = omega (arith, kept, clean) in
           let left = one_more world step i within (has.left going before world shows) in
           cut (replicate (rounds world step) step) (replicate (left_behind world step i) step)
           (ap (λ n. replicate n step) left ∙ replicate_split i (left_behind world step i) step);
     }
       where
-        cut : (ran after : List Step) → ran ≡ replicate i step ++ step ∷ after → PerformsUntil contents old new out_old out_new ran (record { number = step.number; fault = fault })
+        cut : (ran after : List RanStep) → ran ≡ replicate i step ++ step ∷ after → PerformsUntil contents old new out_old out_new ran (record { number = number; fault = fault })
         cut ran after order = record {
           before = replicate i step;
           last = step;
@@ -206,21 +230,57 @@ module _ {S W : Type 0} {store : Ghosts S} (contents : W → Option (List ℕ)) 
         }
 
   -- all rounds were done
-  pub rounds_all : (old new : Project S store) (out_old out_new : W) (step : Step) (i : ℕ) → most_rounds step.mode ≤ i → i ≤ most_rounds step.mode → HasRounds old new out_old out_new step i
-      → PerformsStep contents old new out_old out_new step None
-  rounds_all old new out_old out_new step i all within has = record {
+  pub rounds_all : (old new : Project S store) (out_old out_new : W) (number : ℕ) (action : Action) (i : ℕ) → MOST_ROUNDS ≤ i → i ≤ MOST_ROUNDS → HasRounds old new out_old out_new number action i
+      → PerformsStep contents old new out_old out_new (again number action).step None
+  rounds_all old new out_old out_new number action i all within has = record {
+    stop = None;
+    may_stop = tt;
     times = i;
-    some = let one = some_rounds step.mode in omega (arith, all, one);
-    once = λ single. let most = one_round step.mode single in omega (arith, within, all, most);
+    some = omega (arith, all);
+    once = λ single. absurd (single refl);
     does = has.each;
     over = λ going clean world shows.
-        subst (λ n. PerformsEach contents old new out_old out_new (replicate n step)) (sym (left_out world step i all within (has.left going clean world shows))) has.each;
+        subst (λ n. PerformsEach contents old new out_old out_new (replicate n (again number action)))
+        (sym (left_out world (again number action) i all within (has.left going clean world shows))) has.each;
   }
+
+  -- ---- a step that is done once
+
+  module _ (old new : Project S store) (out_old out_new : W) where
+    steps_once : (ran : RanStep) (end : Option Fault) → PerformsRan contents ran old new out_old out_new end
+        → PerformsSteps contents old new out_old out_new (ran ∷ []) (line_fault ran.step.number end)
+    steps_once ran None does = each_more contents old old new out_old out_old out_new [] ran (each_none contents old out_old) does
+    steps_once ran (Some fault) does = record {
+      before = [];
+      last = ran;
+      after = [];
+      order = refl;
+      number = refl;
+      mid = old;
+      out_mid = out_old;
+      each = each_none contents old out_old;
+      ends = does;
+    }
+
+    pub step_once : (ran : RanStep) (end : Option Fault) → MayStop ran.step ran.stop → most_rounds ran.step.mode ≡ 1
+        → PerformsRan contents ran old new out_old out_new end → PerformsStep contents old new out_old out_new ran.step (line_fault ran.step.number end)
+    step_once ran end may once does = record {
+      stop = ran.stop;
+      may_stop = may;
+      times = 1;
+      some = omega arith;
+      once = λ single. refl;
+      does = steps_once ran end does;
+      over = λ going clean world shows.
+          subst (λ n. PerformsSteps contents old new out_old out_new (replicate n ran) (line_fault ran.step.number end)) (sym (one_round world ran once)) (steps_once ran end does);
+    }
 
   -- ---- step by step
 
   pub script_none : (old : Project S store) (out_old : W) → PerformsScript contents old old out_old out_old [] None
   script_none old out_old = record {
+    as_ran = [];
+    are = refl;
     ran = [];
     repeats = refl;
     does = each_none contents old out_old;
@@ -229,47 +289,55 @@ module _ {S W : Type 0} {store : Ghosts S} (contents : W → Option (List ℕ)) 
 
   module _ (old mid new : Project S store) (out_old out_mid out_new : W) (front : List Step) (step : Step) (first : PerformsScript contents old mid out_old out_mid front None) where
     -- over a world: the steps so far, and the next one over the world behind them
-    next_over : (end : Option LineFault) → PerformsStep contents mid new out_mid out_new step end → (HasCleanDisk (state_of new) → HasCleanDisk (state_of mid))
+    next_over : (end : Option LineFault) (next : PerformsStep contents mid new out_mid out_new step end) → (HasCleanDisk (state_of new) → HasCleanDisk (state_of mid))
         → IsSessionOpen old → HasCleanDisk (state_of new) → (world : World) → ShowsProject old world
-        → PerformsEach contents old mid out_old out_mid (unrolled world front)
-        × PerformsSteps contents mid new out_mid out_new (replicate (rounds (world_behind_steps world (unrolled world front)) step) step) end
+        → PerformsEach contents old mid out_old out_mid (unrolled world first.as_ran)
+        × PerformsSteps contents mid new out_mid out_new (replicate (rounds (world_behind_steps world (unrolled world first.as_ran)) (step_as step next.stop)) (step_as step next.stop)) end
     next_over end next was_clean going clean world shows =
         let before = was_clean clean in
         let one = first.over going before world shows in
-        let done = each_done contents old mid out_old out_mid (unrolled world front) one going before world shows in
-        (one, next.over (each_goes contents old mid out_old out_mid (unrolled world front) one going) clean (world_behind_steps world (unrolled world front)) done.2)
+        let done = each_done contents old mid out_old out_mid (unrolled world first.as_ran) one going before world shows in
+        (one, next.over (each_goes contents old mid out_old out_mid (unrolled world first.as_ran) one going) clean (world_behind_steps world (unrolled world first.as_ran)) done.2)
 
     pub script_more : PerformsStep contents mid new out_mid out_new step None → PerformsScript contents old new out_old out_new (front ++ step ∷ []) None
-    script_more next = record {
-      ran = first.ran ++ replicate next.times step;
-      repeats = repeated_both front (step ∷ []) first.ran (replicate next.times step) first.repeats (next.times, [], sym (append-nil (replicate next.times step)), next.some, next.once, refl);
-      does = each_both contents old mid new out_old out_mid out_new first.ran (replicate next.times step) first.does next.does;
-      over = λ going clean world shows.
-          let kept = each_clean contents mid new out_mid out_new (replicate next.times step) next.does in
-          let (one, two) = next_over None next (λ after. omega (arith, kept, after)) going clean world shows in
-          let here = world_behind_steps world (unrolled world front) in
-          let mine = replicate (rounds here step) step in
-          let whole : unrolled world (front ++ step ∷ []) ≡ unrolled world front ++ mine =
-          unrolled_both world front (step ∷ []) ∙ ap (λ l. unrolled world front ++ l) (append-nil mine) in
-          subst (λ l. PerformsEach contents old new out_old out_new l) (sym whole)
-          (each_both contents old mid new out_old out_mid out_new (unrolled world front) mine one two);
-    }
+    script_more next =
+        let last = step_as step next.stop in
+        record {
+          as_ran = first.as_ran ++ last ∷ [];
+          are = ran_both front (step ∷ []) first.as_ran (last ∷ []) first.are (next.stop, [], refl, next.may_stop, refl);
+          ran = first.ran ++ replicate next.times last;
+          repeats = repeated_both first.as_ran (last ∷ []) first.ran (replicate next.times last) first.repeats (next.times, [], sym (append-nil (replicate next.times last)), next.some, next.once, refl);
+          does = each_both contents old mid new out_old out_mid out_new first.ran (replicate next.times last) first.does next.does;
+          over = λ going clean world shows.
+              let kept = each_clean contents mid new out_mid out_new (replicate next.times last) next.does in
+              let (one, two) = next_over None next (λ after. omega (arith, kept, after)) going clean world shows in
+              let here = world_behind_steps world (unrolled world first.as_ran) in
+              let mine = replicate (rounds here last) last in
+              let whole : unrolled world (first.as_ran ++ last ∷ []) ≡ unrolled world first.as_ran ++ mine =
+              unrolled_both world first.as_ran (last ∷ []) ∙ ap (λ l. unrolled world first.as_ran ++ l) (append-nil mine) in
+              subst (λ l. PerformsEach contents old new out_old out_new l) (sym whole)
+              (each_both contents old mid new out_old out_mid out_new (unrolled world first.as_ran) mine one two);
+        }
 
     pub script_cut : (after : List Step) (end : LineFault) → PerformsStep contents mid new out_mid out_new step (Some end) → PerformsScript contents old new out_old out_new (front ++ step ∷ after) (Some end)
-    script_cut after end next = record {
-      ran = first.ran ++ (replicate next.times step ++ after);
-      repeats = repeated_both front (step ∷ after) first.ran (replicate next.times step ++ after) first.repeats (next.times, after, refl, next.some, next.once, repeated_self after);
-      does = until_both contents old mid new out_old out_mid out_new first.ran (replicate next.times step) after end first.does next.does;
-      over = λ going clean world shows.
-          let (one, two) = next_over (Some end) next was_clean going clean world shows in
-          let here = world_behind_steps world (unrolled world front) in
-          let mine = replicate (rounds here step) step in
-          subst (λ l. PerformsUntil contents old new out_old out_new l end) (sym (unrolled_both world front (step ∷ after)))
-          (until_both contents old mid new out_old out_mid out_new (unrolled world front) mine (unrolled (world_behind_steps here mine) after) end one two);
-    }
+    script_cut after end next =
+        let last = step_as step next.stop in
+        let behind = map unstopped after in
+        record {
+          as_ran = first.as_ran ++ last ∷ behind;
+          are = ran_both front (step ∷ after) first.as_ran (last ∷ behind) first.are (next.stop, behind, refl, next.may_stop, unbegun after);
+          ran = first.ran ++ (replicate next.times last ++ behind);
+          repeats = repeated_both first.as_ran (last ∷ behind) first.ran (replicate next.times last ++ behind) first.repeats (next.times, behind, refl, next.some, next.once, repeated_self behind);
+          does = until_both contents old mid new out_old out_mid out_new first.ran (replicate next.times last) behind end first.does next.does;
+          over = λ going clean world shows.
+              let (one, two) = next_over (Some end) next was_clean going clean world shows in
+              let here = world_behind_steps world (unrolled world first.as_ran) in
+              let mine = replicate (rounds here last) last in
+              subst (λ l. PerformsUntil contents old new out_old out_new l end) (sym (unrolled_both world first.as_ran (last ∷ behind)))
+              (until_both contents old mid new out_old out_mid out_new (unrolled world first.as_ran) mine (unrolled (world_behind_steps here mine) behind) end one two);
+        }
       where
         was_clean : HasCleanDisk (state_of new) → HasCleanDisk (state_of mid)
         was_clean clean =
-            let first_kept = each_clean contents mid next.does.mid out_mid next.does.out_mid next.does.before next.does.each in
-            let last_kept = by_clean contents next.does.mid new next.does.out_mid out_new next.does.last.mode next.does.last.action (Some end.fault) next.does.ends in
-            omega (arith, first_kept, last_kept, clean)
+            let kept = steps_clean contents mid new out_mid out_new (replicate next.times (step_as step next.stop)) (Some end) next.does in
+            omega (arith, kept, clean)

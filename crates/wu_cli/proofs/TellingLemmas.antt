@@ -1,5 +1,5 @@
 -- How many commands of a script were done, and what it put out of them.
-use Rattle.std.proofs.Common.{◌∙◌, inl, inr, ℕ, ◌+◌, Bool, false, List, [], ◌∷◌, ◌++◌, length, Option, Some, None, refl, sym, ap, subst, arith}
+use Rattle.std.proofs.Common.{◌∙◌, inl, inr, ℕ, ◌+◌, Bool, false, List, [], ◌∷◌, ◌++◌, length, take, Option, Some, None, refl, sym, ap, subst, arith}
 use Rattle.sqlite.specs.State.{HasCleanDisk}
 use Rattle.sqlite_trees.specs.declared.store.Store.{Ghosts}
 use Rattle.wu_core.specs.World.{World}
@@ -21,15 +21,15 @@ use Rattle.wu_arguments.specs.declared.script.Mode.{Mode}
 use Rattle.wu_arguments.specs.declared.script.Mode.TheVariants.{Once, Repeated, Tried}
 use Rattle.wu_arguments.specs.declared.step.LineFault.{LineFault}
 use Rattle.wu_arguments.specs.declared.step.Step.{Step}
-use Rattle.wu_cli.specs.Performing.{Performs}
-use Rattle.wu_cli.specs.Repeating.{commands_by, commands_of_action, commands_of_steps, unrolled, world_behind}
+use Rattle.wu_cli.specs.Performing.{commands_of_action, Performs}
+use Rattle.wu_cli.specs.Repeating.{commands_as, commands_by, commands_of_step, commands_of_steps, unrolled, world_behind}
 use Rattle.wu_cli.specs.Scripting.{PerformsScript, PerformsSteps, so_far}
-use Rattle.wu_cli.specs.Telling.{DrivesCommands, DrivesSteps, LengthensBySteps, TellsAction, TellsBy}
-use Rattle.wu_cli.specs.Trying.{EndsTried, PerformsBy, refusal_line}
-use Rattle.wu_cli.proofs.PrintLemmas.{each_prints, one_prints, refused_prints}
+use Rattle.wu_cli.specs.Telling.{DrivesCommands, DrivesSteps, LengthensBySteps, TellsAction, TellsAs, TellsBy}
+use Rattle.wu_cli.specs.Trying.{EndsTried, PerformsAs, PerformsBy, RanStep, refusal_line}
+use Rattle.wu_cli.proofs.PrintLemmas.{each_prints, one_prints, refused_prints, stop_prints}
 use Rattle.wu_cli.proofs.ActionLemmas.{all_drives, drives_within, so_far_drives, world_of}
 use Rattle.wu_cli.proofs.ScriptLemmas.{commands_both, each_done, each_goes, each_over}
-use Rattle.wu_cli.proofs.TryLemmas.{by_clean, drives_accepted, no_end, refused_as, refused_done, refused_over}
+use Rattle.wu_cli.proofs.TryLemmas.{drives_accepted, no_end, ran_clean, refused_as, refused_done, refused_over, stop_done, stop_over}
 
 module _ {S W : Type 0} {store : Ghosts S} (contents : W → Option (List ℕ)) where
   -- what an action that ended with a fault did of its commands, and what it put out of them
@@ -72,7 +72,7 @@ module _ {S W : Type 0} {store : Ghosts S} (contents : W → Option (List ℕ)) 
 
   -- where it was tried
   tried_tells : (old new : Project S store) (out_old out_done out_new : W) (action : Action) (told : Option Fault) (fault : Fault) → Performs contents old new out_old out_done action told
-      → EndsTried contents out_done out_new told (Some fault) → IsSessionOpen old → HasCleanDisk (state_of new) → (world : World) → IsOver old world
+      → EndsTried contents out_done out_new action told (Some fault) → IsSessionOpen old → HasCleanDisk (state_of new) → (world : World) → IsOver old world
       → (answers : List Answer) × (count : ℕ) × (is_cut : Bool) × Drives world (commands_by Tried world action) answers (so_far count) is_cut (state_of new)
       × TellsBy Tried (contents out_old) (contents out_new) world action count fault
   tried_tells old new out_old out_done out_new action None fault does (none, same) going clean world over = no_end fault (sym none)
@@ -93,7 +93,7 @@ module _ {S W : Type 0} {store : Ghosts S} (contents : W → Option (List ℕ)) 
           front = subst (λ r. AppendsFront (contents out_done) (contents out_new) (refusal_line r)) (sym (refused_as contents old new out_old out_done action refused does is_refused going clean world shows)) passed.1;
         }),
       )
-  tried_tells old new out_old out_done out_new action (Some other) fault does (inr (no_refusal, is, same)) going clean world over =
+  tried_tells old new out_old out_done out_new action (Some other) fault does (inr (no_refusal, no_stop, is, same)) going clean world over =
       let it = one_tells old new out_old out_done action other does going clean world over in
       let kept = drives_accepted world (commands_of_action action) it.0 it.1 it.2 (state_of new) it.3 in
       let told = subst (λ o. TellsAction (contents out_old) (contents o) world action it.1.acknowledged fault) (sym same)
@@ -108,7 +108,30 @@ module _ {S W : Type 0} {store : Ghosts S} (contents : W → Option (List ℕ)) 
   by_tells old new out_old out_new Repeated action fault does = once_tells old new out_old out_new action fault does
   by_tells old new out_old out_new Tried action fault tries = tried_tells old new out_old tries.out_done out_new action tries.told fault tries.does tries.ends
 
-  drives_steps : (old new : Project S store) (out_old out_new : W) (steps : List Step) (end : Option LineFault) → PerformsSteps contents old new out_old out_new steps end
+  as_tells : (old new : Project S store) (out_old out_new : W) (stop : Option ℕ) (mode : Mode) (action : Action) (fault : Fault) → PerformsAs contents stop mode old new out_old out_new action (Some fault)
+      → IsSessionOpen old → HasCleanDisk (state_of new) → (world : World) → IsOver old world
+      → (answers : List Answer) × (count : ℕ) × (is_cut : Bool) × Drives world (commands_as stop mode world action) answers (so_far count) is_cut (state_of new)
+      × TellsAs stop mode (contents out_old) (contents out_new) world action count fault
+  as_tells old new out_old out_new None mode action fault does going clean world over = by_tells old new out_old out_new mode action fault does going clean world over
+  as_tells old new out_old out_new (Some count) mode action fault stops going clean world over =
+      let shows = over_shows old world over in
+      let did = stop_done contents old new out_old out_new mode action count (Some fault) stops going clean world shows in
+      let behind = stop_over contents old new out_old out_new mode action count (Some fault) stops going clean world over in
+      let commands = take count (commands_of_action action) in (
+        did.0,
+        length commands,
+        false,
+        all_drives world commands did.0 (state_of new) did.1 behind.goes behind.is_project,
+        record {
+          all = refl;
+          output = stops.passed.0;
+          mid = contents stops.out_done;
+          whole = stop_prints contents old new out_old out_new mode action count (Some fault) stops going clean world shows;
+          front = stops.passed.1;
+        },
+      )
+
+  drives_steps : (old new : Project S store) (out_old out_new : W) (steps : List RanStep) (end : Option LineFault) → PerformsSteps contents old new out_old out_new steps end
       → IsSessionOpen old → HasCleanDisk (state_of new) → (world : World) → IsOver old world
       → DrivesCommands world steps end (contents out_old) (contents out_new) (state_of new)
   drives_steps old new out_old out_new steps None each going clean world over =
@@ -124,21 +147,21 @@ module _ {S W : Type 0} {store : Ghosts S} (contents : W → Option (List ℕ)) 
         whole = λ none. refl;
       }
   drives_steps old new out_old out_new steps (Some end) until going clean world over =
-      let last_clean = by_clean contents until.mid new until.out_mid out_new until.last.mode until.last.action (Some end.fault) until.ends in
+      let last_clean = ran_clean contents until.mid new until.out_mid out_new until.last (Some end.fault) until.ends in
       let before : HasCleanDisk (state_of until.mid) = omega (arith, last_clean, clean) in
       let done = each_done contents old until.mid out_old until.out_mid until.before until.each going before world (over_shows old world over) in
       let here = each_over contents old until.mid out_old until.out_mid until.before until.each going before world over in
       let still = each_goes contents old until.mid out_old until.out_mid until.before until.each going in
       let firsts = commands_of_steps world until.before in
       let behind = world_of world firsts in
-      let last = by_tells until.mid new until.out_mid out_new until.last.mode until.last.action end.fault until.ends still clean behind here in
+      let last = as_tells until.mid new until.out_mid out_new until.last.stop until.last.step.mode until.last.step.action end.fault until.ends still clean behind here in
       let all = ap (λ ss. commands_of_steps world ss) until.order ∙ commands_both world until.before (until.last ∷ until.after) in
       record {
         count = length firsts + last.1;
         answers = done.0 ++ last.0;
         is_cut = last.2;
         drives = subst (λ cs. Drives world cs (done.0 ++ last.0) (so_far (length firsts + last.1)) last.2 (state_of new)) (sym all)
-            (drives_within world firsts (commands_by until.last.mode behind until.last.action) (commands_of_steps (world_behind behind until.last) until.after) done.0 last.0 (so_far last.1) last.2 (state_of new) done.1 last.3);
+            (drives_within world firsts (commands_of_step behind until.last) (commands_of_steps (world_behind behind until.last) until.after) done.0 last.0 (so_far last.1) last.2 (state_of new) done.1 last.3);
         told = record {
           front = until.before;
           last = until.last;
@@ -155,10 +178,10 @@ module _ {S W : Type 0} {store : Ghosts S} (contents : W → Option (List ℕ)) 
 
   pub drives_script : (old new : Project S store) (out_old out_new : W) (steps : List Step) (end : Option LineFault) → PerformsScript contents old new out_old out_new steps end → DrivesSteps contents old new out_old out_new steps end
   drives_script old new out_old out_new steps end it going clean world over =
-      drives_steps old new out_old out_new (unrolled world steps) end (it.over going clean world (over_shows old world over)) going clean world over
+      (it.as_ran, it.are, drives_steps old new out_old out_new (unrolled world it.as_ran) end (it.over going clean world (over_shows old world over)) going clean world over)
 
   pub lengthens_script : (old new : Project S store) (out_old out_new : W) (steps : List Step) (end : Option LineFault) → PerformsScript contents old new out_old out_new steps end → LengthensBySteps contents old new out_old out_new steps end
   lengthens_script old new out_old out_new steps end it going clean start life over =
       let world = world_of_life start life in
-      let driven = drives_script old new out_old out_new steps end it going clean world over in
-      (driven, lengthens start life (commands_of_steps world (unrolled world steps)) driven.answers (so_far driven.count) driven.is_cut (state_of new) driven.drives)
+      let (ran, are, driven) = drives_script old new out_old out_new steps end it going clean world over in
+      (ran, are, driven, lengthens start life (commands_of_steps world (unrolled world ran)) driven.answers (so_far driven.count) driven.is_cut (state_of new) driven.drives)

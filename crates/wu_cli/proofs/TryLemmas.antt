@@ -1,14 +1,13 @@
 -- Tried actions: what the machine accepts of them, and what a refusal leaves.
-use Rattle.std.proofs.Common.{◌≡◌, ◌∙◌, inl, inr, ℕ, zero, suc, ◌≤◌, Bool, true, false, IfSome, List, [], ◌∷◌, length, take, Option, Some, None, Result, Ok, Err, refl, sym, ap, subst, arith}
+use Rattle.std.proofs.Common.{◌≡◌, ◌≢◌, ◌∙◌, inl, inr, ℕ, zero, suc, ◌≤◌, Bool, true, false, IfSome, List, [], ◌∷◌, length, take, Option, Some, None, Result, Ok, Err, refl, sym, ap, subst, arith}
 use Rattle.std.proofs.lemmas.Bool.{cases_Bool}
 use Rattle.std.specs.Prelude.{option_map, slice_get}
 use Rattle.sqlite.specs.State.{State, HasCleanDisk}
 use Rattle.sqlite_trees.specs.declared.store.Store.{Ghosts}
 use Rattle.wu_core.specs.World.{World}
 use Rattle.wu_core.specs.declared.fault.Fault.{Fault}
-use Rattle.wu_core.specs.declared.fault.Fault.TheVariants.{Broken, OldSchema, Output}
+use Rattle.wu_core.specs.declared.fault.Fault.TheVariants.{Broken, NotAProject, OldSchema, Output}
 use Rattle.wu_schema.specs.Faults.{IsStoreFault}
-use Rattle.wu_drive.specs.Counting.{handled_by}
 use Rattle.wu_drive.specs.Driving.{AnswerAll, Drives, world_after}
 use Rattle.wu_drive.specs.Running.{RunsList}
 use Rattle.wu_drive.specs.declared.runs.Run.{Run}
@@ -32,10 +31,10 @@ use Rattle.wu_arguments.specs.declared.action.Action.{Action}
 use Rattle.wu_arguments.specs.declared.action.Action.TheVariants.{Commands, Look, Refused}
 use Rattle.wu_arguments.specs.declared.script.Mode.{Mode}
 use Rattle.wu_arguments.specs.declared.script.Mode.TheVariants.{Once, Repeated, Tried}
-use Rattle.wu_cli.specs.Performing.{as_result, Performs}
-use Rattle.wu_cli.specs.Repeating.{commands_by, commands_of_action, is_at_limit, is_full, limit_of}
-use Rattle.wu_cli.specs.Scripting.{so_far, TellsFull}
-use Rattle.wu_cli.specs.Trying.{accepted, EndsTried, first_refusal, if_accepted, is_refusal, PassesOver, PerformsBy, refusal_of, refused_or, Tries}
+use Rattle.wu_cli.specs.Performing.{as_result, commands_of_action, Performs}
+use Rattle.wu_cli.specs.Repeating.{commands_as, commands_by, commands_of_step}
+use Rattle.wu_cli.specs.Scripting.{so_far}
+use Rattle.wu_cli.specs.Trying.{accepted, AreCommands, Attempts, EndsTried, first_refusal, if_accepted, is_refusal, PassesOver, PerformsAs, PerformsBy, PerformsRan, RanStep, refusal_of, refused_or, stopped_at, Stops, Tries}
 use Rattle.wu_cli.proofs.ActionLemmas.{one_clean, one_done, one_goes, one_over, same_command, shown_present, world_of}
 
 -- ---- the commands that the machine accepts
@@ -196,15 +195,6 @@ not_of_view fault refused (inr is) = not_store fault refused is
 same_error : (one other : Fault) → ◌≡◌ {A = Result (Unit {0}) Fault} (Err one) (Err other) → one ≡ other
 same_error one other same = cc
 
--- a command alone that is refused handles no limit
-none_handled : (told : Result Reply Fault) (fault : Fault) → refused_or told None ≡ Some fault → handled_by told ≡ None
-none_handled (Ok answer) fault is = absurd (cc)
-none_handled (Err other) fault is = refl
-
-none_at_limit : (limit : Option ℕ) → is_at_limit limit None ≡ false
-none_at_limit None = refl
-none_at_limit (Some limit) = refl
-
 module _ {S W : Type 0} {store : Ghosts S} (contents : W → Option (List ℕ)) (old new : Project S store) (out_old out_new : W) where
   -- the session goes on
   refused_goes : (action : Action) (fault : Fault) → Performs contents old new out_old out_new action (Some fault) → is_refusal fault ≡ true → IsSessionOpen old → IsSessionOpen new
@@ -288,19 +278,6 @@ module _ {S W : Type 0} {store : Ghosts S} (contents : W → Option (List ℕ)) 
       subst (λ p. IsOver p world) (sym same) over
   refused_over (Refused why) fault kept refused going clean world over = subst (λ p. IsOver p world) (sym kept.0) over
 
-  -- a refused pass leaves no more to do
-  pub refused_full : (action : Action) (fault : Fault) → Performs contents old new out_old out_new action (Some fault) → is_refusal fault ≡ true
-      → IsSessionOpen old → HasCleanDisk (state_of new) → (world : World) → ShowsProject old world → false ≡ is_full world action
-  refused_full (Commands []) fault does refused going clean world shows = refl
-  refused_full (Commands (command ∷ [])) fault (run, runs, is) refused going clean world shows =
-      let told = (refused_at (command ∷ []) fault run runs is refused going clean world shows).1 in
-      let none = none_handled (reply world (request_of command)) fault told in
-      let limit = limit_of (request_of command) in
-      sym (ap (λ h. is_at_limit limit h) none ∙ none_at_limit limit)
-  refused_full (Commands (command ∷ next ∷ commands)) fault does refused going clean world shows = refl
-  refused_full (Look view) fault does refused going clean world shows = refl
-  refused_full (Refused why) fault kept refused going clean world shows = refl
-
   -- ---- an action that was not refused
 
   -- what the machine accepts is all
@@ -321,13 +298,13 @@ pub no_end : {P : Type 0} (fault : Fault) → ◌≡◌ {A = Option Fault} None 
 no_end fault same = absurd (cc)
 
 module _ {S W : Type 0} {store : Ghosts S} (contents : W → Option (List ℕ)) (old new : Project S store) where
-  tried_goes : (out_old out_done out_new : W) (action : Action) (told : Option Fault) → Performs contents old new out_old out_done action told → EndsTried contents out_done out_new told None
+  tried_goes : (out_old out_done out_new : W) (action : Action) (told : Option Fault) → Performs contents old new out_old out_done action told → EndsTried contents out_done out_new action told None
       → IsSessionOpen old → IsSessionOpen new
   tried_goes out_old out_done out_new action None does ends going = one_goes contents old new out_old out_done action does going
   tried_goes out_old out_done out_new action (Some fault) does (inl (refused, passed)) going = refused_goes contents old new out_old out_done action fault does refused going
-  tried_goes out_old out_done out_new action (Some fault) does (inr (other, is, same)) going = no_end fault is
+  tried_goes out_old out_done out_new action (Some fault) does (inr (other, no_stop, is, same)) going = no_end fault is
 
-  tried_done : (out_old out_done out_new : W) (action : Action) (told : Option Fault) → Performs contents old new out_old out_done action told → EndsTried contents out_done out_new told None
+  tried_done : (out_old out_done out_new : W) (action : Action) (told : Option Fault) → Performs contents old new out_old out_done action told → EndsTried contents out_done out_new action told None
       → IsSessionOpen old → HasCleanDisk (state_of new) → (world : World) → ShowsProject old world
       → (answers : List Answer) × AnswerAll world (commands_by Tried world action) answers × ShowsProject new (world_of world (commands_by Tried world action))
   tried_done out_old out_done out_new action None does ends going clean world shows =
@@ -338,55 +315,133 @@ module _ {S W : Type 0} {store : Ghosts S} (contents : W → Option (List ℕ)) 
         subst (λ cs. ShowsProject new (world_of world cs)) (sym all) did.2,
       )
   tried_done out_old out_done out_new action (Some fault) does (inl (refused, passed)) going clean world shows = refused_done contents old new out_old out_done action fault does refused going clean world shows
-  tried_done out_old out_done out_new action (Some fault) does (inr (other, is, same)) going clean world shows = no_end fault is
+  tried_done out_old out_done out_new action (Some fault) does (inr (other, no_stop, is, same)) going clean world shows = no_end fault is
 
-  tried_over : (out_old out_done out_new : W) (action : Action) (told : Option Fault) → Performs contents old new out_old out_done action told → EndsTried contents out_done out_new told None
+  tried_over : (out_old out_done out_new : W) (action : Action) (told : Option Fault) → Performs contents old new out_old out_done action told → EndsTried contents out_done out_new action told None
       → IsSessionOpen old → HasCleanDisk (state_of new) → (world : World) → IsOver old world → IsOver new (world_of world (commands_by Tried world action))
   tried_over out_old out_done out_new action None does ends going clean world over =
       let all = (all_accepted contents old new out_old out_done action does going clean world (over_shows old world over)).0 in
       subst (λ cs. IsOver new (world_of world cs)) (sym all) (one_over contents old new out_old out_done action does going clean world over)
   tried_over out_old out_done out_new action (Some fault) does (inl (refused, passed)) going clean world over = refused_over contents old new out_old out_done action fault does refused going clean world over
-  tried_over out_old out_done out_new action (Some fault) does (inr (other, is, same)) going clean world over = no_end fault is
+  tried_over out_old out_done out_new action (Some fault) does (inr (other, no_stop, is, same)) going clean world over = no_end fault is
 
-  pub by_goes : (out_old out_new : W) (mode : Mode) (action : Action) → PerformsBy contents mode old new out_old out_new action None → IsSessionOpen old → IsSessionOpen new
+  by_goes : (out_old out_new : W) (mode : Mode) (action : Action) → PerformsBy contents mode old new out_old out_new action None → IsSessionOpen old → IsSessionOpen new
   by_goes out_old out_new Once action does = one_goes contents old new out_old out_new action does
   by_goes out_old out_new Repeated action does = one_goes contents old new out_old out_new action does
   by_goes out_old out_new Tried action tries = tried_goes out_old tries.out_done out_new action tries.told tries.does tries.ends
 
-  pub by_clean : (out_old out_new : W) (mode : Mode) (action : Action) (end : Option Fault) → PerformsBy contents mode old new out_old out_new action end → FaultsOnlyGrow (state_of old) (state_of new)
-  by_clean out_old out_new Once action end does = one_clean contents old new out_old out_new action end does
-  by_clean out_old out_new Repeated action end does = one_clean contents old new out_old out_new action end does
-  by_clean out_old out_new Tried action end tries = one_clean contents old new out_old tries.out_done action tries.told tries.does
-
-  pub by_done : (out_old out_new : W) (mode : Mode) (action : Action) → PerformsBy contents mode old new out_old out_new action None
+  by_done : (out_old out_new : W) (mode : Mode) (action : Action) → PerformsBy contents mode old new out_old out_new action None
       → IsSessionOpen old → HasCleanDisk (state_of new) → (world : World) → ShowsProject old world
       → (answers : List Answer) × AnswerAll world (commands_by mode world action) answers × ShowsProject new (world_of world (commands_by mode world action))
   by_done out_old out_new Once action does = one_done contents old new out_old out_new action does
   by_done out_old out_new Repeated action does = one_done contents old new out_old out_new action does
   by_done out_old out_new Tried action tries = tried_done out_old tries.out_done out_new action tries.told tries.does tries.ends
 
-  pub by_over : (out_old out_new : W) (mode : Mode) (action : Action) → PerformsBy contents mode old new out_old out_new action None
+  by_over : (out_old out_new : W) (mode : Mode) (action : Action) → PerformsBy contents mode old new out_old out_new action None
       → IsSessionOpen old → HasCleanDisk (state_of new) → (world : World) → IsOver old world → IsOver new (world_of world (commands_by mode world action))
   by_over out_old out_new Once action does = one_over contents old new out_old out_new action does
   by_over out_old out_new Repeated action does = one_over contents old new out_old out_new action does
   by_over out_old out_new Tried action tries = tried_over out_old tries.out_done out_new action tries.told tries.does tries.ends
+
+-- ---- an action that the store stopped
+
+stop_ends_nothing : MayEnd NotAProject → ⊥
+stop_ends_nothing (inl is) = absurd (cc)
+stop_ends_nothing (inr is) = absurd (cc)
+
+module _ {S W : Type 0} {store : Ghosts S} (contents : W → Option (List ℕ)) (old new : Project S store) (out_old out_new : W) (mode : Mode) (action : Action) (count : ℕ) (end : Option Fault)
+    (stops : Stops contents old new out_old out_new mode action count end) where
+  stop_goes : IsSessionOpen old → IsSessionOpen new
+  stop_goes going = elim (cases_Bool (has_ended new)) [
+    | inl over ↦
+        let ends = stops.runs.ends going over in
+        absurd (stop_ends_nothing (subst (λ f. MayEnd f) (one_fault ends.0 NotAProject (sym ends.1)) ends.2))
+    | inr still ↦ still
+  ]
+
+  pub stop_done : IsSessionOpen old → HasCleanDisk (state_of new) → (world : World) → ShowsProject old world
+      → (answers : List Answer) × AnswerAll world (take count (commands_of_action action)) answers × ShowsProject new (world_of world (take count (commands_of_action action)))
+  stop_done going clean world shows =
+      let driven = stops.runs.answers.3 going clean world shows in
+      (stops.runs.answers.0, driven.answered, driven.shows)
+
+  pub stop_over : IsSessionOpen old → HasCleanDisk (state_of new) → (world : World) → IsOver old world → IsOver new (world_of world (take count (commands_of_action action)))
+  stop_over going clean world over =
+      let (answers, answered, behind) = stop_done going clean world (over_shows old world over) in
+      record { is_project = behind.is_project; version = behind.version; goes = (stops.runs.answers.2 going clean world over).goes (stop_goes going) }
+
+-- ---- a step as it ran
+
+module _ {S W : Type 0} {store : Ghosts S} (contents : W → Option (List ℕ)) (old new : Project S store) (out_old out_new : W) where
+  as_goes : (stop : Option ℕ) (mode : Mode) (action : Action) → PerformsAs contents stop mode old new out_old out_new action None → IsSessionOpen old → IsSessionOpen new
+  as_goes None mode action does = by_goes contents old new out_old out_new mode action does
+  as_goes (Some count) mode action stops = stop_goes contents old new out_old out_new mode action count None stops
+
+  pub ran_goes : (ran : RanStep) → PerformsRan contents ran old new out_old out_new None → IsSessionOpen old → IsSessionOpen new
+  ran_goes ran does = as_goes ran.stop ran.step.mode ran.step.action does
+
+  -- what was done of it, and why that ended
+  as_performs : (stop : Option ℕ) (mode : Mode) (action : Action) (end : Option Fault) → PerformsAs contents stop mode old new out_old out_new action end
+      → (out_done : W) × (told : Option Fault) × Performs contents old new out_old out_done action told
+  as_performs None Once action end does = (out_new, end, does)
+  as_performs None Repeated action end does = (out_new, end, does)
+  as_performs None Tried action end tries = (tries.out_done, tries.told, tries.does)
+  as_performs (Some count) mode action end stops =
+      (stops.out_done, Some NotAProject, subst (λ a. Performs contents old new out_old stops.out_done a (Some NotAProject)) (sym stops.asks) (stopped_at count, stops.runs, refl))
+
+  pub ran_performs : (ran : RanStep) (end : Option Fault) → PerformsRan contents ran old new out_old out_new end → (out_done : W) × (told : Option Fault) × Performs contents old new out_old out_done ran.step.action told
+  ran_performs ran end does = as_performs ran.stop ran.step.mode ran.step.action end does
+
+  pub ran_clean : (ran : RanStep) (end : Option Fault) → PerformsRan contents ran old new out_old out_new end → FaultsOnlyGrow (state_of old) (state_of new)
+  ran_clean ran end does = let (out_done, told, did) = ran_performs ran end does in one_clean contents old new out_old out_done ran.step.action told did
+
+  as_done : (stop : Option ℕ) (mode : Mode) (action : Action) → PerformsAs contents stop mode old new out_old out_new action None
+      → IsSessionOpen old → HasCleanDisk (state_of new) → (world : World) → ShowsProject old world
+      → (answers : List Answer) × AnswerAll world (commands_as stop mode world action) answers × ShowsProject new (world_of world (commands_as stop mode world action))
+  as_done None mode action does = by_done contents old new out_old out_new mode action does
+  as_done (Some count) mode action stops = stop_done contents old new out_old out_new mode action count None stops
+
+  pub ran_done : (ran : RanStep) → PerformsRan contents ran old new out_old out_new None
+      → IsSessionOpen old → HasCleanDisk (state_of new) → (world : World) → ShowsProject old world
+      → (answers : List Answer) × AnswerAll world (commands_of_step world ran) answers × ShowsProject new (world_of world (commands_of_step world ran))
+  ran_done ran does = as_done ran.stop ran.step.mode ran.step.action does
+
+  as_over : (stop : Option ℕ) (mode : Mode) (action : Action) → PerformsAs contents stop mode old new out_old out_new action None
+      → IsSessionOpen old → HasCleanDisk (state_of new) → (world : World) → IsOver old world → IsOver new (world_of world (commands_as stop mode world action))
+  as_over None mode action does = by_over contents old new out_old out_new mode action does
+  as_over (Some count) mode action stops = stop_over contents old new out_old out_new mode action count None stops
+
+  pub ran_over : (ran : RanStep) → PerformsRan contents ran old new out_old out_new None
+      → IsSessionOpen old → HasCleanDisk (state_of new) → (world : World) → IsOver old world → IsOver new (world_of world (commands_of_step world ran))
+  ran_over ran does = as_over ran.stop ran.step.mode ran.step.action does
 
 -- ---- a try
 
 module _ {S W : Type 0} {store : Ghosts S} (contents : W → Option (List ℕ)) (old new : Project S store) (out_old out_done out_new : W) (action : Action) (told : Option Fault) (does : Performs contents old new out_old out_done action told) where
   -- an action that was not refused
   pub tries_done : told ≡ None → Tries contents old new out_old out_done action None
-  tries_done none = record { told = told; out_done = out_done; does = does; ends = subst (λ t. EndsTried contents out_done out_done t None) (sym none) (refl, refl) }
+  tries_done none = record { told = told; out_done = out_done; does = does; ends = subst (λ t. EndsTried contents out_done out_done action t None) (sym none) (refl, refl) }
 
   -- one that was, and whose line went out or not
   pub tries_refused : (fault : Fault) (end : Option Fault) → told ≡ Some fault → is_refusal fault ≡ true → PassesOver contents out_done out_new fault end
       → Tries contents old new out_old out_new action end
-  tries_refused fault end is refused passed = record { told = told; out_done = out_done; does = does; ends = subst (λ t. EndsTried contents out_done out_new t end) (sym is) (inl (refused, passed)) }
+  tries_refused fault end is refused passed = record { told = told; out_done = out_done; does = does; ends = subst (λ t. EndsTried contents out_done out_new action t end) (sym is) (inl (refused, passed)) }
 
   -- one that another fault ended
-  pub tries_ended : (fault : Fault) → told ≡ Some fault → is_refusal fault ≡ false → Tries contents old new out_old out_done action (Some fault)
-  tries_ended fault is other = record { told = told; out_done = out_done; does = does; ends = subst (λ t. EndsTried contents out_done out_done t (Some fault)) (sym is) (inr (other, refl, refl)) }
+  pub tries_ended : (fault : Fault) → told ≡ Some fault → is_refusal fault ≡ false → (AreCommands action → fault ≢ NotAProject) → Tries contents old new out_old out_done action (Some fault)
+  tries_ended fault is other no_stop = record { told = told; out_done = out_done; does = does; ends = subst (λ t. EndsTried contents out_done out_done action t (Some fault)) (sym is) (inr (other, no_stop, refl, refl)) }
 
-  pub full_refused : (fault : Fault) (end : Option Fault) → told ≡ Some fault → is_refusal fault ≡ true → TellsFull old new action end false
-  full_refused fault end is refused none going clean world shows =
-      refused_full contents old new out_old out_done action fault (subst (λ t. Performs contents old new out_old out_done action t) is does) refused going clean world shows
+module _ {S W : Type 0} {store : Ghosts S} (contents : W → Option (List ℕ)) (old new : Project S store) (out_old out_done out_new : W) where
+  -- one of whose commands the store refused
+  pub commands_stopped : (commands : List Command) (end : Option Fault) → Performs contents old new out_old out_done (Commands commands) (Some NotAProject) → PassesOver contents out_done out_new NotAProject end
+      → Attempts contents old new out_old out_new (Commands commands) end
+  commands_stopped commands end (run, runs, is) passed = (
+    Some run.acknowledged,
+    record {
+      tried = refl;
+      asks = refl;
+      out_done = out_done;
+      runs = subst (λ e. RunsList contents old new out_old out_done commands (record { acknowledged = run.acknowledged; end = e })) is runs;
+      passed = passed;
+    },
+  )

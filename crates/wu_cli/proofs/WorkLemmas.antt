@@ -1,6 +1,6 @@
 -- What is done for a line or a script over an open database, and what goes out.
 use Rattle.std.proofs.Common.{◌≡◌, ◌∙◌, inl, inr, ℕ, List, Option, Some, None, Result, Err, refl, sym, ap, subst, arith, false, []}
-use Rattle.std.specs.Prelude.{OnOk}
+use Rattle.std.specs.Prelude.{map, OnOk}
 use Rattle.std.specs.Io.KnownBytes.{Appends}
 use Rattle.std.proofs.KnownBytes.{Appends-nil}
 use Rattle.sqlite.specs.Held.{Held, state}
@@ -20,12 +20,14 @@ use Rattle.wu_report.specs.Writing.{WritesTo}
 use Rattle.wu_cli.specs.Performing.{Performs}
 use Rattle.wu_cli.specs.Printing.{printed_action, printed_steps, printed_work, PrintsOver}
 use Rattle.wu_cli.specs.Repeating.{unrolled}
-use Rattle.wu_cli.specs.Working.{BeginsFrom, DoesAdopted, DoesNothing, DoesOver, DrivesOver, DrivesWork, line_outcome, PerformsWork, script_outcome}
+use Rattle.wu_cli.specs.Trying.{RanStep}
+use Rattle.wu_cli.specs.Working.{BeginsFrom, DoesAdopted, DoesNothing, DoesOver, DrivesOver, DrivesWork, line_outcome, PerformsWork, script_outcome, WorkRanAs}
 use Rattle.wu_cli.specs.declared.trouble.Trouble.{Trouble}
 use Rattle.wu_cli.specs.declared.work.Work.{Work}
 use Rattle.wu_cli.specs.declared.work.Work.TheVariants as work
 use Rattle.wu_cli.proofs.PrintLemmas.{one_prints, script_prints}
 use Rattle.wu_cli.proofs.ActionLemmas.{all_drives, one_clean}
+use Rattle.wu_cli.proofs.RepeatLemmas.{unbegun, unstopped}
 use Rattle.wu_cli.proofs.ScriptLemmas.{script_clean}
 use Rattle.wu_cli.proofs.TellingLemmas.{drives_script}
 
@@ -53,6 +55,8 @@ module _ {S W : Type 0} {store : Ghosts S} (contents : W → Option (List ℕ)) 
   line_works (Commands commands) end (run, runs, is) going clean world over =
       let driven = runs.answers.2 going clean world over in
       record {
+        ran = [];
+        are = refl;
         count = run.acknowledged;
         answers = runs.answers.0;
         is_cut = has_ended new;
@@ -68,6 +72,8 @@ module _ {S W : Type 0} {store : Ghosts S} (contents : W → Option (List ℕ)) 
         whole = line_whole end _ (λ none. runs.all (is ∙ none));
       }
   line_works (Look view) end sees going clean world over = record {
+    ran = [];
+    are = refl;
     count = 0;
     answers = [];
     is_cut = false;
@@ -75,6 +81,8 @@ module _ {S W : Type 0} {store : Ghosts S} (contents : W → Option (List ℕ)) 
     whole = line_whole end _ (λ none. refl);
   }
   line_works (Refused why) end kept going clean world over = record {
+    ran = [];
+    are = refl;
     count = 0;
     answers = [];
     is_cut = false;
@@ -93,8 +101,10 @@ module _ {S W : Type 0} {store : Ghosts S} (contents : W → Option (List ℕ)) 
   work_drives (work.Line action) done (end, does, is) going clean world over =
       subst (λ d. DrivesWork world (work.Line action) d (state_of new)) (sym is) (line_works action end does going clean world over)
   work_drives (work.Script script) done (end, does, is) going clean world over =
-      let driven = drives_script contents old new out_old out_new script.steps end does going clean world over in
+      let (ran, are, driven) = drives_script contents old new out_old out_new script.steps end does going clean world over in
       subst (λ d. DrivesWork world (work.Script script) d (state_of new)) (sym is) (record {
+        ran = ran;
+        are = are;
         count = driven.count;
         answers = driven.answers;
         is_cut = driven.is_cut;
@@ -140,13 +150,17 @@ module _ {S W : Type 0} (g : Ghosts S) (contents : W → Option (List ℕ)) (con
 module _ {S W : Type 0} {store : Ghosts S} (contents : W → Option (List ℕ)) (old new : Project S store) (out_old out_new : W) where
   work_prints : (asked : Work) (done : Result (Unit {0}) Trouble) → PerformsWork contents old new out_old out_new asked done
       → IsSessionOpen old → HasCleanDisk (state_of new) → (world : World) → ShowsProject old world
-      → WritesTo contents out_old out_new (printed_work world asked) done
+      → (ran : List RanStep) × WorkRanAs asked ran × WritesTo contents out_old out_new (printed_work world asked ran) done
   work_prints (work.Line action) done (end, does, is) going clean world shows =
-      subst (λ d. WritesTo contents out_old out_new (printed_action world action) d) (sym is)
-      (one_prints contents old new out_old out_new action end does going clean world shows)
+      ([], refl, subst (λ d. WritesTo contents out_old out_new (printed_action world action) d) (sym is) (one_prints contents old new out_old out_new action end does going clean world shows))
   work_prints (work.Script script) done (end, does, is) going clean world shows =
-      subst (λ d. WritesTo contents out_old out_new (printed_steps world (unrolled world script.steps)) d) (sym is)
-      (script_prints contents old new out_old out_new script.steps end does going clean world shows)
+      let (ran, are, prints) = script_prints contents old new out_old out_new script.steps end does going clean world shows in
+      (ran, are, subst (λ d. WritesTo contents out_old out_new (printed_steps world (unrolled world ran)) d) (sym is) prints)
+
+-- nothing stopped the work
+unstopped_work : (asked : Work) → (ran : List RanStep) × WorkRanAs asked ran
+unstopped_work (work.Line action) = ([], refl)
+unstopped_work (work.Script script) = (map unstopped script.steps, unbegun script.steps)
 
 module _ {S W : Type 0} (g : Ghosts S) (contents : W → Option (List ℕ)) (conn again : Held S) (out_old out_new : W) (asked : Work) (done : Result (Unit {0}) Trouble) where
   pub prints_over : DoesOver g contents conn again out_old out_new asked done → PrintsOver g contents conn again out_old out_new asked done
@@ -157,5 +171,9 @@ module _ {S W : Type 0} (g : Ghosts S) (contents : W → Option (List ℕ)) (con
       let shows = over_shows does.old world (begins g contents conn again out_old out_new asked done does before world project begun) in
       work_prints contents does.old does.new out_old out_new asked done does.does does.begins after world shows
   prints_over (inr none) clean world project begun =
-      subst (λ d. WritesTo contents out_old out_new (printed_work world asked) d) (sym none.told)
-      (0, subst (λ o. Appends (contents out_old) (contents o) []) (sym none.unwritten) (Appends-nil (contents out_old)))
+      let (ran, are) = unstopped_work asked in (
+        ran,
+        are,
+        subst (λ d. WritesTo contents out_old out_new (printed_work world asked ran) d) (sym none.told)
+            (0, subst (λ o. Appends (contents out_old) (contents o) []) (sym none.unwritten) (Appends-nil (contents out_old))),
+      )

@@ -1,18 +1,16 @@
 -- What a backup asks of its copy, and what it reports; why a file is not made.
-use Rattle.std.specs.Prelude.{◌≡◌, ℕ, List, ◌++◌, codes, IsOkUnless, Option, Result, Ok, Err}
+use Rattle.std.specs.Prelude.{◌≡◌, ℕ, List, ◌++◌, codes, Result, Ok, Err}
 use Rattle.std.specs.Fmt.{decimal}
 use Rattle.std.specs.declared.io.ErrorKind.{ErrorKind}
 use Rattle.std.specs.declared.io.ErrorKind.TheVariants.{NotFound, OutOfMemory, StorageFull}
 use Rattle.sqlite.specs.Held.{Held}
 use Rattle.sqlite.specs.Store.{Ghosts}
 use Rattle.wu_core.specs.declared.fault.Fault.{Fault}
-use Rattle.wu_core.specs.declared.fault.Fault.TheVariants.{Output}
 use Rattle.wu_check.specs.Examining.{AnswersUnlessFailed, OnKept}
 use Rattle.wu_check.specs.Findings.{SaysSound, SaysUnsound, SaysWhy}
 use Rattle.wu_check.specs.declared.finding.Verdict.{Verdict}
 use Rattle.wu_check.specs.declared.finding.Verdict.TheVariants as verdict
 use Rattle.wu_report.specs.Texts.{line_end}
-use Rattle.wu_report.specs.Writing.{WritesTo}
 use Rattle.wu_schema.specs.Asking.{Asks}
 use Rattle.wu_schema.specs.Calls.{OnAnswer}
 use Rattle.wu_cli.specs.declared.backup.Counts.{Counts}

@@ -1,10 +1,11 @@
 -- What is printed over a world: the texts of the machine's answers and of views, in the order of the actions.
-use Rattle.std.specs.Prelude.{ℕ, List, [], ◌∷◌, ◌++◌, Option, Some, None, Result, Ok, Err}
+use Rattle.std.specs.Prelude.{ℕ, List, [], ◌∷◌, ◌++◌, take, Option, Some, None, Result, Ok, Err}
 use Rattle.sqlite.specs.Held.{Held, state}
 use Rattle.sqlite.specs.State.{HasCleanDisk}
 use Rattle.sqlite.specs.Store.{Ghosts}
 use Rattle.wu_core.specs.World.{World}
 use Rattle.wu_core.specs.declared.fault.Fault.{Fault}
+use Rattle.wu_core.specs.declared.fault.Fault.TheVariants.{NotAProject}
 use Rattle.wu_machine.specs.declared.command.Command.{Command}
 use Rattle.wu_machine.specs.Commands.{request_of}
 use Rattle.wu_machine.specs.Machine.{reply, step}
@@ -22,9 +23,11 @@ use Rattle.wu_arguments.specs.declared.script.Mode.{Mode}
 use Rattle.wu_arguments.specs.declared.script.Mode.TheVariants.{Once, Repeated, Tried}
 use Rattle.wu_arguments.specs.declared.step.LineFault.{LineFault}
 use Rattle.wu_arguments.specs.declared.step.Step.{Step}
-use Rattle.wu_cli.specs.Repeating.{unrolled, world_behind}
-use Rattle.wu_cli.specs.Trying.{accepted, refusal_line, refusal_of}
-use Rattle.wu_cli.specs.Working.{BeginsFrom, line_outcome, script_outcome}
+use Rattle.wu_cli.specs.Endings.{fault_line}
+use Rattle.wu_cli.specs.Performing.{commands_of_action}
+use Rattle.wu_cli.specs.Repeating.{RanAs, unrolled, world_behind}
+use Rattle.wu_cli.specs.Trying.{accepted, refusal_line, refusal_of, RanStep}
+use Rattle.wu_cli.specs.Working.{BeginsFrom, line_outcome, script_outcome, WorkRanAs}
 use Rattle.wu_cli.specs.declared.trouble.Trouble.{Trouble}
 use Rattle.wu_cli.specs.declared.work.Work.{Work}
 use Rattle.wu_cli.specs.declared.work.Work.TheVariants as work
@@ -65,15 +68,20 @@ printed_by Once world action = printed_action world action
 printed_by Repeated world action = printed_action world action
 printed_by Tried world action = printed_accepted world action ++ refusal_line (refusal_of world action)
 
--- What steps print, each over the world that the steps before it left.
-abbrev pub printed_steps : World → List Step → List ℕ
-printed_steps world [] = []
-printed_steps world (step ∷ more) = printed_by step.mode world step.action ++ printed_steps (world_behind world step) more
+-- Likewise of one that the store may have stopped: the answers to the commands before the refused one, and its line.
+abbrev pub printed_as : Option ℕ → Mode → World → Action → List ℕ
+printed_as None mode world action = printed_by mode world action
+printed_as (Some count) mode world action = printed_replies world (take count (commands_of_action action)) ++ fault_line NotAProject
 
--- What a line or a script prints.
-abbrev pub printed_work : World → Work → List ℕ
-printed_work world (work.Line action) = printed_action world action
-printed_work world (work.Script script) = printed_steps world (unrolled world script.steps)
+-- What steps print, each over the world that the steps before it left.
+abbrev pub printed_steps : World → List RanStep → List ℕ
+printed_steps world [] = []
+printed_steps world (ran ∷ more) = printed_as ran.stop ran.step.mode world ran.step.action ++ printed_steps (world_behind world ran) more
+
+-- What a line prints, or a script whose steps ran as these.
+abbrev pub printed_work : World → Work → List RanStep → List ℕ
+printed_work world (work.Line action) ran = printed_action world action
+printed_work world (work.Script script) ran = printed_steps world (unrolled world ran)
 
 -- ---- what goes out: exactly this, and with a fault a prefix of it
 
@@ -87,10 +95,10 @@ PrintsAction contents old new out_old out_new action end =
 abbrev pub PrintsSteps : {S W : Type 0} {store : Ghosts S} → (W → Option (List ℕ)) → Project S store → Project S store → W → W → List Step → Option LineFault → Type 0
 PrintsSteps contents old new out_old out_new steps end =
     IsSessionOpen old → HasCleanDisk (state_of new) → (world : World) → ShowsProject old world
-    → WritesTo contents out_old out_new (printed_steps world (unrolled world steps)) (script_outcome end)
+    → (ran : List RanStep) × RanAs steps ran × WritesTo contents out_old out_new (printed_steps world (unrolled world ran)) (script_outcome end)
 
 -- Likewise work over an open database, from each world that a session over it may begin from.
 abbrev pub PrintsOver : {S W : Type 0} (g : Ghosts S) → (W → Option (List ℕ)) → Held S → Held S → W → W → Work → Result (Unit {0}) Trouble → Type 0
 PrintsOver g contents conn again out_old out_new asked done =
     HasCleanDisk (state g again) → (world : World) → IsProject world → BeginsFrom (state g conn) world
-    → WritesTo contents out_old out_new (printed_work world asked) done
+    → (ran : List RanStep) × WorkRanAs asked ran × WritesTo contents out_old out_new (printed_work world asked ran) done

@@ -1,5 +1,5 @@
 -- In which line of a file its rows stand.
-use Rattle.std.specs.Prelude.{ℕ, ◌==◌, ◌-◌, Bool, true, false, not, List, [], ◌∷◌, filter, slice_get, Option}
+use Rattle.std.specs.Prelude.{ℕ, ◌==◌, ◌-◌, Bool, true, false, not, List, [], ◌∷◌, filter, slice_get}
 use Rattle.std.specs.List.{enumerate_from, slice_split}
 use Rattle.std.specs.Option.{option_map_or}
 

@@ -1,5 +1,5 @@
--- A tried line: the commands that the machine accepts of it, and what becomes of its refusal.
-use Rattle.std.specs.Prelude.{◌≡◌, ◌⊎◌, ℕ, Bool, true, false, List, [], ◌∷◌, option_map, Option, Some, None, Result, Ok, Err}
+-- A tried line: the commands that the machine accepts of it, and what becomes of a refusal by the machine or the store.
+use Rattle.std.specs.Prelude.{◌≡◌, ◌≢◌, ◌⊎◌, ℕ, Bool, true, false, List, [], ◌∷◌, option_map, Option, Some, None, Result, Ok, Err}
 use Rattle.std.specs.Io.KnownBytes.{Appends}
 use Rattle.sqlite_trees.specs.declared.store.Store.{Ghosts}
 use Rattle.wu_core.specs.World.{World}
@@ -11,13 +11,16 @@ use Rattle.wu_machine.specs.Machine.{reply, step}
 use Rattle.wu_machine.specs.Requests.{Reply}
 use Rattle.wu_passes.specs.Adopting.{older_than_present}
 use Rattle.wu_passes.specs.declared.project.Project.{Project}
+use Rattle.wu_drive.specs.Running.{RunsList}
+use Rattle.wu_drive.specs.declared.runs.Run.{Run}
 use Rattle.wu_report.specs.Writing.{AppendsFront}
 use Rattle.wu_arguments.specs.declared.action.Action.{Action}
 use Rattle.wu_arguments.specs.declared.action.Action.TheVariants.{Commands, Look, Refused}
 use Rattle.wu_arguments.specs.declared.script.Mode.{Mode}
 use Rattle.wu_arguments.specs.declared.script.Mode.TheVariants.{Once, Repeated, Tried}
+use Rattle.wu_arguments.specs.declared.step.Step.{Step}
 use Rattle.wu_cli.specs.Endings.{fault_line}
-use Rattle.wu_cli.specs.Performing.{Performs}
+use Rattle.wu_cli.specs.Performing.{commands_of_action, Performs}
 
 -- Whether the machine may refuse a request with this fault: it is none of the store, of an ended session or of the
 -- output.
@@ -59,6 +62,10 @@ refusal_of world (Commands commands) = first_refusal world commands
 refusal_of world (Look view) = option_map fault.OldSchema (older_than_present world.version)
 refusal_of world (Refused fault) = Some fault
 
+-- The action is a list of commands.
+abbrev pub AreCommands : Action → Type 0
+AreCommands action = action ≡ Commands (commands_of_action action)
+
 -- The line that goes out for a refusal.
 abbrev pub refusal_line : Option Fault → List ℕ
 refusal_line None = []
@@ -72,12 +79,13 @@ module _ {W : Type 0} (contents : W → Option (List ℕ)) where
   PassesOver out_old out_new refused None = Appends (contents out_old) (contents out_new) (fault_line refused)
   PassesOver out_old out_new refused (Some end) = (end ≡ fault.Output) × AppendsFront (contents out_old) (contents out_new) (fault_line refused)
 
-  -- An action ended so, and so its step did: a refusal is passed over, and any other fault ends the step.
-  abbrev pub EndsTried : W → W → Option Fault → Option Fault → Type 0
-  EndsTried out_old out_new None end = (end ≡ None) × (out_new ≡ out_old)
-  EndsTried out_old out_new (Some told) end =
+  -- An action ended so, and so its step did: a refusal is passed over. Any other fault ends the step, but F13 of a
+  -- command.
+  abbrev pub EndsTried : W → W → Action → Option Fault → Option Fault → Type 0
+  EndsTried out_old out_new action None end = (end ≡ None) × (out_new ≡ out_old)
+  EndsTried out_old out_new action (Some told) end =
       ((is_refusal told ≡ true) × PassesOver out_old out_new told end)
-      ⊎ ((is_refusal told ≡ false) × (end ≡ Some told) × (out_new ≡ out_old))
+      ⊎ ((is_refusal told ≡ false) × (AreCommands action → told ≢ fault.NotAProject) × (end ≡ Some told) × (out_new ≡ out_old))
 
 module _ {S W : Type 0} {store : Ghosts S} (contents : W → Option (List ℕ)) where
   -- The action is done, and its refusal is passed over.
@@ -85,10 +93,48 @@ module _ {S W : Type 0} {store : Ghosts S} (contents : W → Option (List ℕ)) 
     pub told : Option Fault
     pub out_done : W
     pub does : Performs contents old new out_old out_done action told
-    pub ends : EndsTried contents out_done out_new told end
+    pub ends : EndsTried contents out_done out_new action told end
 
   -- An action is done in this way, and this ended it.
   abbrev pub PerformsBy : Mode → Project S store → Project S store → W → W → Action → Option Fault → Type 0
   PerformsBy Once old new out_old out_new action end = Performs contents old new out_old out_new action end
   PerformsBy Repeated old new out_old out_new action end = Performs contents old new out_old out_new action end
   PerformsBy Tried old new out_old out_new action end = Tries old new out_old out_new action end
+
+-- ---- stopped by the store
+
+-- A step as it ran. The store stopped a tried one behind so many of its commands, where it refused the next one.
+pub record RanStep : Type 0 where
+  pub step : Step
+  pub stop : Option ℕ
+
+-- The step, which the store stopped so or not.
+abbrev pub step_as : Step → Option ℕ → RanStep
+step_as step stop = record { step = step; stop = stop }
+
+-- The run of a list of which the store refused the command after these many.
+abbrev pub stopped_at : ℕ → Run
+stopped_at count = record { acknowledged = count; end = Some fault.NotAProject }
+
+module _ {S W : Type 0} {store : Ghosts S} (contents : W → Option (List ℕ)) where
+  -- The store refused a command of a tried action. Those before it are done, and the line of the refusal goes out behind
+  -- their answers.
+  pub record Stops (old new : Project S store) (out_old out_new : W) (mode : Mode) (action : Action) (count : ℕ) (end : Option Fault) : Type 0 where
+    pub tried : mode ≡ Tried
+    pub asks : AreCommands action
+    pub out_done : W
+    pub runs : RunsList contents old new out_old out_done (commands_of_action action) (stopped_at count)
+    pub passed : PassesOver contents out_done out_new fault.NotAProject end
+
+  -- An action is done in this way, and this ended it. The store did not stop it, or stopped it behind so many commands.
+  abbrev pub PerformsAs : Option ℕ → Mode → Project S store → Project S store → W → W → Action → Option Fault → Type 0
+  PerformsAs None mode old new out_old out_new action end = PerformsBy contents mode old new out_old out_new action end
+  PerformsAs (Some count) mode old new out_old out_new action end = Stops old new out_old out_new mode action count end
+
+  -- A step is done as it ran, and this ended it.
+  abbrev pub PerformsRan : RanStep → Project S store → Project S store → W → W → Option Fault → Type 0
+  PerformsRan ran old new out_old out_new end = PerformsAs ran.stop ran.step.mode old new out_old out_new ran.step.action end
+
+  -- A tried action is done. What the machine or the store refuses of it is passed over.
+  abbrev pub Attempts : Project S store → Project S store → W → W → Action → Option Fault → Type 0
+  Attempts old new out_old out_new action end = (stop : Option ℕ) × PerformsAs stop Tried old new out_old out_new action end

@@ -27,8 +27,9 @@ use Rattle.wu_arguments.specs.declared.order.ScriptFile.{ScriptFile}
 use Rattle.wu_arguments.specs.declared.step.BadLine.{BadLine}
 use Rattle.wu_arguments.specs.declared.step.LineFault.{LineFault}
 use Rattle.wu_arguments.specs.declared.step.Script.{Script}
-use Rattle.wu_cli.specs.Performing.{Performs}
-use Rattle.wu_cli.specs.Repeating.{commands_of_action, commands_of_steps, unrolled}
+use Rattle.wu_cli.specs.Performing.{commands_of_action, Performs}
+use Rattle.wu_cli.specs.Repeating.{commands_of_steps, RanAs, unrolled}
+use Rattle.wu_cli.specs.Trying.{RanStep}
 use Rattle.wu_cli.specs.Scripting.{PerformsScript, so_far}
 use Rattle.wu_cli.specs.declared.trouble.Trouble.{Trouble}
 use Rattle.wu_cli.specs.declared.trouble.Trouble.TheVariants as trouble
@@ -96,20 +97,27 @@ PerformsWork contents old new out_old out_new (work.Line action) done =
 PerformsWork contents old new out_old out_new (work.Script script) done =
     (end : Option LineFault) × PerformsScript contents old new out_old out_new script.steps end × (done ≡ script_outcome end)
 
--- The commands of the work over a world, in order. A view has none, and a repeated pass has one for each time that it
--- is done.
-abbrev pub commands_of_work : World → Work → List Command
-commands_of_work world (work.Line action) = commands_of_action action
-commands_of_work world (work.Script script) = commands_of_steps world (unrolled world script.steps)
+-- The steps of a script ran as these; a line has none.
+abbrev pub WorkRanAs : Work → List RanStep → Type 0
+WorkRanAs (work.Line action) ran = ran ≡ []
+WorkRanAs (work.Script script) ran = RanAs script.steps ran
+
+-- The commands of the work over a world, in order, if its steps ran as these. A view has none, and a repeated pass has
+-- one for each time that it is done.
+abbrev pub commands_of_work : World → Work → List RanStep → List Command
+commands_of_work world (work.Line action) ran = commands_of_action action
+commands_of_work world (work.Script script) ran = commands_of_steps world (unrolled world ran)
 
 -- So many commands were done, each with the machine's reply, and the tables represent the world after them. If the
 -- session ended within the next command, a crash may also leave the world after that one. With success all were done.
 pub record DrivesWork (world : World) (asked : Work) (done : Result (Unit {0}) Trouble) (new : State) : Type 0 where
+  pub ran : List RanStep
+  pub are : WorkRanAs asked ran
   pub count : ℕ
   pub answers : List Answer
   pub is_cut : Bool
-  pub drives : Drives world (commands_of_work world asked) answers (so_far count) is_cut new
-  pub whole : OnOk done (count ≡ length (commands_of_work world asked))
+  pub drives : Drives world (commands_of_work world asked ran) answers (so_far count) is_cut new
+  pub whole : OnOk done (count ≡ length (commands_of_work world asked ran))
 
 -- ---- over an open database
 

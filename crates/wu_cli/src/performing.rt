@@ -41,8 +41,8 @@ pub fn perform<S: Alter, W: Write>(
 /// fault that ended it with its line.
 ///
 /// A repeated step is done until its pass handles less than its limit, at most a million times. Of a tried one the
-/// commands are done up to the first that the machine refuses, and then the next step. So over a world a script is the
-/// list of commands that the machine's answers make of it.
+/// commands are done up to the first that the machine or the store refuses, and then the next step. So over a world a
+/// script is the list of commands that the machine's answers make of the steps as they ran.
 pub fn perform_script<S: Alter, W: Write>(
     alloc: Global,
     project: &mut Project<S>,
@@ -57,9 +57,9 @@ pub fn perform_script<S: Alter, W: Write>(
     // The status is 0 without a fault, and else that of the fault.
     ensures status { result.0 ≡ status_of_line result.1 }
     // A prefix of the script's commands is done, each with the machine's reply; without a fault
-    // all. A tried command that the machine refuses is none of them. Where the session ended within
-    // a command, a crash may leave that one done. What went out reports just as many commands as
-    // were done.
+    // all. A tried command that the machine or the store refuses is none of them. Where the session
+    // ended within a command, a crash may leave that one done. What went out reports just as many
+    // commands as were done.
     ensures drives { DrivesSteps W.contents project.old project.new out.old out.new
         steps.now result.1 }
     // Where a crash could leave one world alone, after the script each world that it may leave is

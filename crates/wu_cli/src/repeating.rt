@@ -2,9 +2,9 @@
 
 ghost use Rattle.std.specs.Prelude.{◌≡◌};
 ghost use Rattle.wu_cli.specs.Performing.{Performs};
-ghost use Rattle.wu_cli.specs.Repeating.{fill_limit, is_at_limit, limit_of, most_rounds};
-ghost use Rattle.wu_cli.specs.Scripting.{PerformsStep, TellsFull};
-ghost use Rattle.wu_cli.specs.Trying.{is_refusal, PassesOver, PerformsBy, Tries};
+ghost use Rattle.wu_cli.specs.Repeating.{fill_limit, is_at_limit, limit_of};
+ghost use Rattle.wu_cli.specs.Scripting.{line_fault, PerformsStep, Repeats, TellsFull};
+ghost use Rattle.wu_cli.specs.Trying.{Attempts, is_refusal, PassesOver};
 ghost use Rattle.wu_machine.specs.Commands.{request_of};
 ghost use Rattle.wu_arguments.specs.Statuses.{status_of_line};
 
@@ -101,65 +101,83 @@ fn pass_over<W: Write>(out: &mut W, refused: Fault) -> Option<Fault>
     }
 }
 
-/// Does an action as `act`, and passes over its refusal: the line of the refusal goes out.
+/// Does an action as `act`, and passes over its refusal: the line of the refusal goes out. Also where the store refused
+/// one of its commands. Returns any other fault.
 fn attempt<S: Alter, W: Write>(
     alloc: Global,
     project: &mut Project<S>,
     action: &Action,
     out: &mut W,
-) -> (Option<Fault>, bool)
-    ensures does { Tries W.contents project.old project.new out.old out.new action.now result.0 }
-    ensures full { TellsFull project.old project.new action.now result.0 result.1 }
+) -> Option<Fault>
+    // The action is done as by `act`. What the machine or the store refuses of it is passed over.
+    ensures { Attempts W.contents project.old project.new out.old out.new action.now result }
 {
-    let (end, is_full) = act(alloc, project, action, out);
+    let (end, _) = act(alloc, project, action, out);
     match end {
-        Some(fault) => {
-            if is_refusal(fault) {
-                (pass_over(out, fault), false)
-            } else {
-                (Some(fault), is_full)
+        Some(fault) => match fault {
+            Fault::NotAProject => match action {
+                Action::Commands(_) => pass_over(out, fault),
+                _ => Some(fault),
+            },
+            _ => {
+                if is_refusal(fault) {
+                    pass_over(out, fault)
+                } else {
+                    Some(fault)
+                }
             }
-        }
-        None => (None, is_full),
-    }
-}
-
-/// Does an action in this way. Returns the fault that ended it, and whether there may be more to do, as `act`.
-fn act_by<S: Alter, W: Write>(
-    alloc: Global,
-    project: &mut Project<S>,
-    mode: Mode,
-    action: &Action,
-    out: &mut W,
-) -> (Option<Fault>, bool)
-    ensures does { PerformsBy W.contents mode project.old project.new out.old out.new
-        action.now result.0 }
-    ensures full { TellsFull project.old project.new action.now result.0 result.1 }
-{
-    match mode {
-        Mode::Once => act(alloc, project, action, out),
-        Mode::Repeated => act(alloc, project, action, out),
-        Mode::Tried => attempt(alloc, project, action, out),
+        },
+        None => None,
     }
 }
 
 /// How often a repeated step is done at most.
 pub const MOST_ROUNDS: u32 = 1_000_000;
 
-/// Returns how often a step is done at most: a million times if it is repeated, and else once.
-fn most_rounds(mode: Mode) -> u32
-    ensures { result ≡ most_rounds mode }
+/// Does an action again until its pass handles less than its limit, at most a million times. Returns the fault that
+/// ended it.
+fn repeat<S: Alter, W: Write>(
+    alloc: Global,
+    project: &mut Project<S>,
+    action: &Action,
+    out: &mut W,
+) -> Option<Fault>
+    // The action is done once, and again after each answer that is its limit, and after no other.
+    ensures { Repeats W.contents project.old project.new out.old out.new action.now result }
 {
-    match mode {
-        Mode::Once => 1,
-        Mode::Repeated => MOST_ROUNDS,
-        Mode::Tried => 1,
+    'each: for _ in 0..MOST_ROUNDS {
+        let (end, is_full) = act(alloc, project, action, out);
+        match end {
+            Some(fault) => return Some(fault),
+            None => {}
+        }
+        if !is_full {
+            return None;
+        }
+    }
+    None
+}
+
+/// Does what a step of a script asks for, in its way. Returns the fault that ended it.
+fn perform_in_its_way<S: Alter, W: Write>(
+    alloc: Global,
+    project: &mut Project<S>,
+    step: &Step,
+    out: &mut W,
+) -> Option<Fault>
+    ensures { PerformsStep W.contents project.old project.new out.old out.new
+        step.now (line_fault step.now.number result) }
+{
+    match step.mode {
+        Mode::Once => act(alloc, project, &step.action, out).0,
+        Mode::Repeated => repeat(alloc, project, &step.action, out),
+        Mode::Tried => attempt(alloc, project, &step.action, out),
     }
 }
 
 /// Does what a step of a script asks for. A repeated step is done again until its pass handles less than its limit, at
-/// most a million times. The refusal of a tried one is passed over, and its line goes out. Returns the status of the
-/// program, and the fault that ended the step with its line.
+/// most a million times. What the machine or the store refuses of a tried one is passed over, and its line goes out.
+/// Returns the status of the program, and the fault that ended the step with its line.
 pub fn perform_step<S: Alter, W: Write>(
     alloc: Global,
     project: &mut Project<S>,
@@ -173,18 +191,11 @@ pub fn perform_step<S: Alter, W: Write>(
     // The status is 0 without a fault, and else that of the fault.
     ensures status { result.0 ≡ status_of_line result.1 }
 {
-    'each: for _ in 0..most_rounds(step.mode) {
-        let (end, is_full) = act_by(alloc, project, step.mode, &step.action, out);
-        match end {
-            Some(fault) => {
-                let number = step.number;
-                return (fault_status(fault), Some(LineFault { number, fault }));
-            }
-            None => {}
+    match perform_in_its_way(alloc, project, step, out) {
+        Some(fault) => {
+            let number = step.number;
+            (fault_status(fault), Some(LineFault { number, fault }))
         }
-        if !is_full {
-            return (0, None);
-        }
+        None => (0, None),
     }
-    (0, None)
 }

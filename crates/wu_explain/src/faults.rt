@@ -161,10 +161,12 @@ Nothing was done. Status 1.
         ),
         "F13" => Some(
             "F13 NotAProject
-A table of another program has one of our names, a stored row is no value of its
-type, or a statement was refused, say by somebody's index. See whether it is the
-right file, and who else wrote to it; else take a copy from before.
-The tables are as they were before the command. Status 1.
+A table of another program has one of our names, or a stored row is no value of its
+type. Or a statement was refused, say by somebody's index, or by a foreign key that
+refers to one of our tables. See whether it is the right file, and who else wrote to
+it; take out what refuses, or take a copy from before.
+The tables are as they were before the command; of a cycle, the passes before it
+are done. Status 1.
 ",
         ),
         "F14" => Some(

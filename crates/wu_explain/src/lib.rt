@@ -24,8 +24,42 @@ pub use topics::nearest;
 use views::view_text;
 use words::{cause_text, key_text, skip_text, subcommand_text};
 
-/// Returns the explanation of what a view prints, in lower case: a state, or the name of a column; `None` for any other
-/// word.
+/// Returns the explanation of what a check, a backup, outputs or a lint report, or of a line that is none of a script, by
+/// its first word in lower case; `None` if none begins with it.
+fn text_of_report<'a>(word: &str) -> Option<&'a str>
+    // A text that is returned is not empty.
+    ensures { IfSome result (λ text. 1 ≤ length text.now) }
+{
+    match word {
+        "ok" | "table" | "there" | "version" | "queue" | "project" => subject_text("checks"),
+        "workunit" | "result" | "credit_grant" | "host" | "archived" => subject_text("checks"),
+        "import" | "host_class" | "workunit_class" => subject_text("checks"),
+        "backup" => subject_text("backups"),
+        "outputs" => subject_text("outputs"),
+        "in" | "found:" | "wanted:" => subject_text("lint"),
+        "only" => subject_text("scripts"),
+        _ => None,
+    }
+}
+
+/// Returns the explanation of a command's answer, by its first word in lower case; `None` if none begins with it.
+fn text_of_answer<'a>(word: &str) -> Option<&'a str>
+    // A text that is returned is not empty.
+    ensures { IfSome result (λ text. 1 ≤ length text.now) }
+{
+    match word {
+        "batch" | "sent" | "reported" | "classes" => subject_text("imports"),
+        "transition:" | "validate:" | "assimilate:" => subject_text("passes"),
+        "delete:" | "purge:" => subject_text("passes"),
+        "cancel" => subject_text("cancels"),
+        "upgrade:" => subject_text("upgrade"),
+        "came" => subject_text("imports"),
+        _ => None,
+    }
+}
+
+/// Returns the explanation of a word that a view or a check prints, in lower case: a state, the name of a column, or the
+/// first word of a line that counts or reports; `None` for any other word.
 fn text_of_view_word<'a>(word: &str) -> Option<&'a str>
     // A text that is returned is not empty.
     ensures { IfSome result (λ text. 1 ≤ length text.now) }
@@ -33,7 +67,30 @@ fn text_of_view_word<'a>(word: &str) -> Option<&'a str>
     if let Some(text) = state_text(word) {
         return Some(text);
     }
-    column_text(word)
+    if let Some(text) = column_text(word) {
+        return Some(text);
+    }
+    if let Some(text) = counted_text(word) {
+        return Some(text);
+    }
+    text_of_report(word)
+}
+
+/// Returns the explanation of a column with its value, as a view or a check prints it, in lower case: by its name. Of
+/// another word it is that of a state; `None` if there is neither.
+fn text_of_cell<'a>(word: &str) -> Option<&'a str>
+    // A text that is returned is not empty.
+    ensures { IfSome result (λ text. 1 ≤ length text.now) }
+{
+    match word.split_once('=') {
+        Some((name, _value)) => match column_text(name) {
+            Some(text) => Some(text),
+            None => counted_text(name),
+        },
+        // as a state; alone it is why a row was skipped
+        None if word == "over" => view_text("results"),
+        None => state_text(word),
+    }
 }
 
 /// Returns the explanation of a topic of one word, in lower case; `None` if there is no such topic. A column may have its
@@ -42,8 +99,8 @@ fn text_of_word<'a>(word: &str) -> Option<&'a str>
     // A text that is returned is not empty.
     ensures { IfSome result (λ text. 1 ≤ length text.now) }
 {
-    if let Some((name, _value)) = word.split_once('=') {
-        return column_text(name);
+    if word.split_once('=').is_some() {
+        return text_of_cell(word);
     }
     if let Some(text) = named_fault_text(word) {
         return Some(text);
@@ -72,22 +129,6 @@ fn text_of_word<'a>(word: &str) -> Option<&'a str>
     text_of_view_word(word)
 }
 
-/// Returns the explanation of what a check, a backup or outputs report, by its first word in lower case; `None` if none
-/// begins with it.
-fn text_of_report<'a>(word: &str) -> Option<&'a str>
-    // A text that is returned is not empty.
-    ensures { IfSome result (λ text. 1 ≤ length text.now) }
-{
-    match word {
-        "ok" | "table" | "there" | "version" | "queue" | "project" => subject_text("checks"),
-        "workunit" | "result" | "credit_grant" | "host" | "archived" => subject_text("checks"),
-        "import" | "host_class" | "workunit_class" => subject_text("checks"),
-        "backup" => subject_text("backups"),
-        "outputs" => subject_text("outputs"),
-        _ => None,
-    }
-}
-
 /// Returns the explanation of a fault as it is printed, with its number or without, by its first two words in lower case;
 /// `None` if there is none.
 fn text_of_printed<'a>(first: &str, second: &str) -> Option<&'a str>
@@ -100,8 +141,8 @@ fn text_of_printed<'a>(first: &str, second: &str) -> Option<&'a str>
     unnumbered_fault_text(first)
 }
 
-/// Returns the explanation of two words, in lower case: a fault, or a line that counts, with its number; `None` if there
-/// is none.
+/// Returns the explanation of two words, in lower case: a fault, a line that counts, with its number or `-`, or an answer;
+/// `None` if there is none.
 fn text_of_two<'a>(first: &str, second: &str) -> Option<&'a str>
     // A text that is returned is not empty.
     ensures { IfSome result (λ text. 1 ≤ length text.now) }
@@ -109,19 +150,26 @@ fn text_of_two<'a>(first: &str, second: &str) -> Option<&'a str>
     if let Some(text) = text_of_printed(first, second) {
         return Some(text);
     }
-    match second.as_bytes().first() {
-        Some(byte) if byte.is_ascii_digit() => counted_text(first),
+    let counted = match second.as_bytes().first() {
+        Some(byte) if byte.is_ascii_digit() || *byte == b'-' => counted_text(first),
         _ => None,
+    };
+    match counted {
+        Some(text) => Some(text),
+        None => text_of_answer(first),
     }
 }
 
-/// Returns the explanation of what is printed in three or more words, by its first two in lower case: a fault or a
-/// report; `None` if there is none.
+/// Returns the explanation of what is printed in three or more words, by its first two in lower case: a fault, an answer
+/// or a report; `None` if there is none.
 fn text_of_more<'a>(first: &str, second: &str) -> Option<&'a str>
     // A text that is returned is not empty.
     ensures { IfSome result (λ text. 1 ≤ length text.now) }
 {
     if let Some(text) = text_of_printed(first, second) {
+        return Some(text);
+    }
+    if let Some(text) = text_of_answer(first) {
         return Some(text);
     }
     text_of_report(first)
@@ -229,6 +277,7 @@ fn text_of_reason<'a>(first: &str, second: &str) -> Option<&'a str>
     match first {
         "cannot" => text_of_trouble(second),
         "unknown" => text_of_unknown(second),
+        "line" | "only" => subject_text("scripts"),
         _ => text_of_fault(first, second),
     }
 }
@@ -249,6 +298,21 @@ fn text_of_line<'a>(first: &str, second: &str, third: &str, fourth: &str) -> Opt
 }
 
 /// Returns the explanation of a topic, by its first two words in lower case and the next two, each empty where there is
+/// none; of a line that a view prints, that of its first state or column. Returns `None` if there is no such topic.
+fn text_of_line_of_view<'a>(first: &str, second: &str, third: &str, fourth: &str) -> Option<&'a str>
+    // A text that is returned is not empty.
+    ensures { IfSome result (λ text. 1 ≤ length text.now) }
+{
+    if let Some(text) = text_of_words(first, second, !third.is_empty() || !fourth.is_empty()) {
+        return Some(text);
+    }
+    match text_of_cell(second) {
+        Some(text) => Some(text),
+        None => text_of_cell(third),
+    }
+}
+
+/// Returns the explanation of a topic, by its first two words in lower case and the next two, each empty where there is
 /// none; `None` if there is no such topic.
 fn text_of_lowered<'a>(first: &str, second: &str, third: &str, fourth: &str) -> Option<&'a str>
     // A text that is returned is not empty.
@@ -265,7 +329,8 @@ fn text_of_lowered<'a>(first: &str, second: &str, third: &str, fourth: &str) -> 
         ("cannot", _) => text_of_trouble(second),
         ("unknown", word) if !word.is_empty() => text_of_unknown(word),
         ("host", _) if third == "errors" => subject_text("waits"),
-        _ => text_of_words(first, second, !third.is_empty() || !fourth.is_empty()),
+        ("ok", path) if !path.is_empty() && third.is_empty() => subject_text("lint"),
+        _ => text_of_line_of_view(first, second, third, fourth),
     }
 }
 
@@ -301,8 +366,8 @@ fn first_word(text: &str) -> (&str, &str) {
 /// list of all topics. The first word may hold all of them, as where they are quoted. A fault may go on with further
 /// words, as it is printed, and its number may be left out. It may also stand after `=` and a status, as a session prints
 /// it, or after `line` and `NUMBER:`, as it is printed of a script. Why a row was skipped may stand after `row` and
-/// `NUMBER:`. What begins with `cannot` or `unknown` is explained by the word after it, and what a check, a backup or
-/// outputs report by its first word. Returns `None` if there is no such topic.
+/// `NUMBER:`. What begins with `cannot` or `unknown` is explained by the word after it, and what answers, a check, a
+/// backup or outputs report by its first word. Returns `None` if there is no such topic.
 pub fn explanation<'a>(first: &str, second: &str, third: &str, fourth: &str) -> Option<&'a str>
     // A text that is returned is not empty.
     ensures { IfSome result (λ text. 1 ≤ length text.now) }

@@ -40,7 +40,8 @@ is where the file is empty, and the log holds a page (it has 568 bytes or more).
 PATH-wal is a link, put the log itself there; where something else lies at PATH-wal or
 PATH-journal, as a folder or a text, move it away. Nothing is opened, either, where
 the path is that of a log, or where the file is no database.
-check --db PATH names the cause, where a copy of both files shows it.
+check --db PATH names the cause, where a copy of both files shows it; explain checks
+has what else sqlite3 can tell.
 Else open it again by show --view summary: each command that was acknowledged is
 there, and the last one whole or not at all. Then repeat that command. An import
 under its name with its content acts once, a pass does what is still to do, a

@@ -27,6 +27,8 @@ pub fn subject_text<'a>(name: &str) -> Option<&'a str>
   mask          why a workunit is given up
   waits         what the subcommand status prints
   scripts       many commands in one opening
+  cancels       how a workunit is given up by hand
+  upgrade       a project of an older version
   checks        whether a database holds a sound project, and what it reports
   backups       a copy of a project in a file of its own
   outputs       the outputs of finished jobs as files
@@ -190,16 +192,34 @@ commands run in one opening up to the first fault; the lines before it are done.
 After the word repeat a pass is run until it answers less than its limit, each time
 as a command of its own, and at most a million times:
   repeat transition --now 2026-03-01T12:00:00Z --limit 1000
-After the word try a command, a cycle or a view is run, and where it is refused,
-with F1 to F11, that fault is printed in place of its answer, and the script goes on:
+After the word try a command, a cycle or a view is run. Where it is refused with F1
+to F11, or a command with F13, that fault is printed in place of its answer, and the
+script goes on:
   try cancel --workunit job_7
 The last lines may ask for what is made of a copy of the project:
   backup --to FILE
   outputs --to FOLDER
 They run after the other lines, if none of these ended the script, and up to the
 first that is not made. The database is closed then, and no other process has it.
-A session takes such lines one by one from standard input, backups between them too:
+A session takes such lines one by one from standard input, backups between them too,
+each of at most 65,536 bytes:
   lintelthyme session --db PATH
+",
+        ),
+        "cancels" | "cancel" => Some(
+            "cancel --db PATH --workunit NAME gives up a workunit that is undecided, and prints
+  cancel NAME: done
+Its mask has 16 from then on: explain mask. The passes close its instances, and
+archive and remove it as any other. A cancel that was done is refused as F10, or as
+F9 after the purge. So in a script put try before it: explain scripts.
+",
+        ),
+        "upgrade" => Some(
+            "upgrade --db PATH makes a project of version 1 or 2 one of version 3, and prints the
+version that it had and the one that it has
+  upgrade: 1 to 3
+Until then every other command is refused as F11. Copy the file before, and its log
+where there is one. A project of version 3 stays as it is: upgrade: 3 to 3.
 ",
         ),
         "checks" => Some(
@@ -218,8 +238,8 @@ rename what has the name. If there is no table project, and something has a name
 a new project gives, no command can make one: rename that, or take another file. If
 the name is project, it is a view, or a table with somebody's trigger: drop that.
 A table that has somebody's trigger is reported as missing, or its file as no
-database that this program reads. So is a file with a row that refers to none, or with a
-virtual table. sqlite3 finds the first two by
+database that this program reads. So is a file with a row that refers to none, with a
+virtual table, or with somebody's index that has a WHERE. sqlite3 finds the first two by
   SELECT name, tbl_name FROM sqlite_schema WHERE type = 'trigger'
   PRAGMA foreign_key_check
 ",

@@ -42,6 +42,8 @@ passes
 mask
 waits
 scripts
+cancels
+cancel
 checks
 backups
 lint

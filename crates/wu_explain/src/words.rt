@@ -60,7 +60,6 @@ pub fn subcommand_text<'a>(word: &str) -> Option<&'a str>
         "transition" | "validate" | "assimilate" => subject_text("passes"),
         "delete" | "purge" | "cycle" => subject_text("passes"),
         "script" | "session" | "repeat" | "try" => subject_text("scripts"),
-        "upgrade" => named_fault_text("f11"),
         "check" => subject_text("checks"),
         "backup" => subject_text("backups"),
         _ => None,

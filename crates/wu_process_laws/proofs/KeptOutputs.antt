@@ -1,6 +1,6 @@
 -- From what was kept of a copy to the outputs of the files.
 use Rattle.std.proofs.Common.{◌≡◌, ℕ, List, Result, Ok, Err, inl, inr, sym, ap, subst}
-use Rattle.std.specs.Prelude.{MatchResult, length}
+use Rattle.std.specs.Prelude.{MatchResult}
 use Rattle.sqlite_disk.specs.declared.Files.{Files}
 use Rattle.sqlite_disk.specs.declared.memory.Memory.{Memory}
 use Rattle.sqlite_wal.specs.Recovery.{Image}
@@ -9,11 +9,9 @@ use Rattle.sqlite.specs.Effect.{Database}
 use Rattle.sqlite.specs.Files.{file_state, image_of, over_files}
 use Rattle.sqlite.specs.Held.{Held}
 use Rattle.wu_schema.specs.Refines.{Refines}
-use Rattle.wu_store.specs.StandsFor.{KnowsClasses}
-use Rattle.wu_views.specs.Lines.{archived_lines}
 use Rattle.wu_arguments.specs.declared.order.OutputFiles.{OutputFiles}
 use Rattle.wu_cli.specs.Backups.{CountsSound}
-use Rattle.wu_cli.specs.Outputs.{HaveFiles, KeepsOutputs, KeepsSound, total, wanted_of}
+use Rattle.wu_cli.specs.Outputs.{KeepsOutputs}
 use Rattle.wu_cli.specs.declared.backup.Counts.{Counts}
 use Rattle.wu_cli.specs.declared.outputs.KeptCounts.{KeptCounts}
 use Rattle.wu_cli.specs.declared.trouble.Trouble.{Trouble}

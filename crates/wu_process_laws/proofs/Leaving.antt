@@ -47,13 +47,9 @@ use Rattle.wu_schema.specs.Refines.{IsFree}
 use Rattle.wu_store.specs.StandsFor.{StandsFor}
 use Rattle.wu_stops.proofs.StoppingLemmas.{stands_still}
 use Rattle.wu_schema.proofs.VersionLemmas.{free_lacks}
-use Rattle.wu_arguments.specs.Statuses.{fault_status, refusal_status, usage_status}
+use Rattle.wu_arguments.specs.Statuses.{fault_status}
 use Rattle.wu_arguments.specs.declared.action.Action.{Action}
 use Rattle.wu_arguments.specs.declared.action.Action.TheVariants.{Commands, Look, Refused}
-use Rattle.wu_arguments.specs.declared.refusal.Refusal.{Refusal}
-use Rattle.wu_arguments.specs.declared.refusal.Refusal.TheVariants as refusal
-use Rattle.wu_arguments.specs.declared.usage.Usage.{Usage}
-use Rattle.wu_arguments.specs.declared.usage.Usage.TheVariants as usage
 use Rattle.wu_cli.specs.Scripting.{so_far}
 use Rattle.wu_cli.specs.Troubles.{trouble_status}
 use Rattle.wu_cli.specs.Working.{BeginsFrom, commands_of_work, DoesAdopted, DoesNothing, DoesOver, DrivesOver, DrivesWork, line_outcome, RefusesWork}
@@ -67,12 +63,6 @@ use Rattle.wu_report.specs.Writing.{AppendsFront, WritesTo}
 use Rattle.wu_arguments.specs.declared.step.Script.{Script}
 use Rattle.std.proofs.Math.Seq.{take-length}
 use Rattle.std.specs.Io.KnownBytes.{Appends}
-use Rattle.wu_cli.specs.Backups.{unmade_status}
-use Rattle.wu_cli.specs.Checks.{reason_status}
-use Rattle.wu_cli.specs.declared.backup.Unmade.{Unmade}
-use Rattle.wu_cli.specs.declared.backup.Unmade.TheVariants as unmade
-use Rattle.wu_cli.specs.declared.reason.Reason.{Reason}
-use Rattle.wu_cli.specs.declared.reason.Reason.TheVariants as reason
 use Rattle.wu_cli.specs.declared.trouble.Trouble.{Trouble}
 use Rattle.wu_cli.specs.declared.trouble.Trouble.TheVariants as trouble
 use Rattle.wu_cli.specs.declared.work.Work.{Work}
@@ -92,84 +82,8 @@ use Rattle.wu_process_laws.specs.Runs.{BeginsWhereOneEnded, BeginsWhereOneStoppe
 
 -- ---- statuses
 
-fault_told : (f : Fault) → fault_status f ≡ 0 → ⊥
-fault_told fault.BadName none = absurd (omega (arith, none))
-fault_told (fault.BadTemplate key) none = absurd (omega (arith, none))
-fault_told (fault.BadFile row cause) none = absurd (omega (arith, none))
-fault_told fault.NameUsed none = absurd (omega (arith, none))
-fault_told (fault.WorkunitUsed n) none = absurd (omega (arith, none))
-fault_told fault.TooMany none = absurd (omega (arith, none))
-fault_told fault.BadMoment none = absurd (omega (arith, none))
-fault_told fault.BadLimit none = absurd (omega (arith, none))
-fault_told fault.UnknownWorkunit none = absurd (omega (arith, none))
-fault_told fault.NotOpenToCancel none = absurd (omega (arith, none))
-fault_told (fault.OldSchema n) none = absurd (omega (arith, none))
-fault_told (fault.NewSchema n) none = absurd (omega (arith, none))
-fault_told fault.NotAProject none = absurd (omega (arith, none))
-fault_told fault.Memory none = absurd (omega (arith, none))
-fault_told fault.Broken none = absurd (omega (arith, none))
-fault_told fault.Output none = absurd (omega (arith, none))
-fault_told fault.Ended none = absurd (omega (arith, none))
-
-usage_told : (u : Usage) → usage_status u ≡ 0 → ⊥
-usage_told (usage.Refused word) none = absurd (omega (arith, none))
-usage_told usage.UnknownView none = absurd (omega (arith, none))
-usage_told (usage.UnknownTopic near) none = absurd (omega (arith, none))
-usage_told usage.UnknownKind none = absurd (omega (arith, none))
-usage_told usage.LongLine none = absurd (omega (arith, none))
-usage_told usage.NotText none = absurd (omega (arith, none))
-usage_told usage.Incomplete none = absurd (omega (arith, none))
-usage_told usage.Memory none = absurd (omega (arith, none))
-
-refusal_told : (r : Refusal) → refusal_status r ≡ 0 → ⊥
-refusal_told (refusal.Text cause) none = absurd (omega (arith, none))
-refusal_told (refusal.Words u) none = usage_told u none
-refusal_told (refusal.Outsider outsider) none = absurd (omega (arith, none))
-refusal_told refusal.Repeat none = absurd (omega (arith, none))
-refusal_told refusal.Try none = absurd (omega (arith, none))
-refusal_told refusal.AfterExport none = absurd (omega (arith, none))
-refusal_told (refusal.Fault f) none = fault_told f none
-
-reason_told : (r : Reason) → reason_status r ≡ 0 → ⊥
-reason_told reason.NoFile none = absurd (omega (arith, none))
-reason_told reason.LogName none = absurd (omega (arith, none))
-reason_told reason.LogAlone none = absurd (omega (arith, none))
-reason_told reason.LinkedLog none = absurd (omega (arith, none))
-reason_told reason.ForeignLog none = absurd (omega (arith, none))
-reason_told reason.InUse none = absurd (omega (arith, none))
-reason_told reason.NoDatabase none = absurd (omega (arith, none))
-reason_told reason.OtherKind none = absurd (omega (arith, none))
-reason_told reason.TwoNames none = absurd (omega (arith, none))
-reason_told reason.Journal none = absurd (omega (arith, none))
-reason_told reason.Damaged none = absurd (omega (arith, none))
-reason_told reason.FailingDisk none = absurd (omega (arith, none))
-reason_told reason.FullDisk none = absurd (omega (arith, none))
-reason_told reason.Refused none = absurd (omega (arith, none))
-reason_told reason.Memory none = absurd (omega (arith, none))
-
-unmade_told : (u : Unmade) → unmade_status u ≡ 0 → ⊥
-unmade_told unmade.Taken none = absurd (omega (arith, none))
-unmade_told unmade.OtherBytes none = absurd (omega (arith, none))
-unmade_told unmade.LogName none = absurd (omega (arith, none))
-unmade_told unmade.LogBeside none = absurd (omega (arith, none))
-unmade_told unmade.PartBeside none = absurd (omega (arith, none))
-unmade_told unmade.NoFolder none = absurd (omega (arith, none))
-unmade_told unmade.FullDisk none = absurd (omega (arith, none))
-unmade_told unmade.Refused none = absurd (omega (arith, none))
-unmade_told unmade.Memory none = absurd (omega (arith, none))
-
 trouble_told : (t : Trouble) → trouble_status t ≡ 0 → ⊥
-trouble_told (trouble.Usage u) none = usage_told u none
-trouble_told (trouble.BadLine bad) none = refusal_told bad.why none
-trouble_told trouble.Unopened none = absurd (omega (arith, none))
-trouble_told (trouble.Fault f) none = fault_told f none
-trouble_told (trouble.LineFault end) none = fault_told end.fault none
-trouble_told (trouble.Unchecked r) none = reason_told r none
-trouble_told (trouble.Unsound found) none = absurd (omega (arith, none))
-trouble_told (trouble.Unmade why) none = unmade_told why none
-trouble_told trouble.NoFolder none = absurd (omega (arith, none))
-trouble_told (trouble.Lost lost) none = unmade_told lost.why none
-trouble_told (trouble.Unread unread) none = fault_told unread.fault none
+trouble_told t none = grind arith
 
 -- the status is that of the trouble, where there is one
 abbrev HasStatus : Result (Unit {0}) Trouble → ℕ → Type 0
@@ -204,7 +118,7 @@ was_clean contents conn again old new asked done (inr none) clean = omega (arith
 
 module _ {D W : Type 0} {g : Ghosts D} (contents : W → Option (List ℕ)) (conn again : Held (FileStore D g)) (old new : W) (done : Result (Unit {0}) Trouble) where
   abbrev ToldWork : World → Work → Type 0
-  ToldWork world asked = (it : DrivesWork world asked done (file_state again)) × TellsDone (contents old) (contents new) world asked it.answers it.count
+  ToldWork world asked = (it : DrivesWork world asked done (file_state again)) × TellsDone (contents old) (contents new) world asked it.ran it.answers it.count
 
   -- a line of commands was done over an adopted project
   line_told : (commands : List Command) (does : DoesAdopted over_files contents conn again old new (work.Line (Commands commands)) done) → HasCleanDisk (file_state again) → (world : World) → IsProject world
@@ -227,6 +141,8 @@ module _ {D W : Type 0} {g : Ghosts D} (contents : W → Option (List ℕ)) (con
       } in
       let whole : OnOk done (run.acknowledged ≡ length commands) = subst (λ (d : Result (Unit {0}) Trouble). OnOk d (run.acknowledged ≡ length commands)) (sym told) (line_whole end _ (λ none. runs.all (is ∙ none))) in (
         record {
+          ran = [];
+          are = refl;
           count = run.acknowledged;
           answers = answers;
           is_cut = has_ended does.new;
@@ -244,10 +160,12 @@ module _ {D W : Type 0} {g : Ghosts D} (contents : W → Option (List ℕ)) (con
       let after : HasCleanDisk (state_of does.new) = subst (λ c. HasCleanDisk (file_state c)) does.released clean in
       let before : HasCleanDisk (state_of does.old) = let kept = script_clean contents does.old does.new old new script.steps end performs in omega (arith, kept, after) in
       let over = begins over_files contents conn again old new _ done does before world project begun in
-      let driven = drives_script contents does.old does.new old new script.steps end performs does.begins after world over in
-      let commands = commands_of_work world (work.Script script) in
+      let (ran, are, driven) = drives_script contents does.old does.new old new script.steps end performs does.begins after world over in
+      let commands = commands_of_work world (work.Script script) ran in
       let whole : OnOk done (driven.count ≡ length commands) = subst (λ (d : Result (Unit {0}) Trouble). OnOk d (driven.count ≡ length commands)) (sym told) (script_whole end _ driven.whole) in (
         record {
+          ran = ran;
+          are = are;
           count = driven.count;
           answers = driven.answers;
           is_cut = driven.is_cut;
@@ -398,9 +316,11 @@ module _ {D : Type 0} {g : Ghosts D} (again : Held (FileStore D g)) (files : Fil
           ]
 
   module _ (done : Result (Unit {0}) Trouble) (status : ℕ) (has : HasStatus done status) where
-    leaves_done : (says : Holds) (before after : Option (List ℕ)) (world : World) (asked : Work) (it : DrivesWork world asked done (file_state again)) → TellsDone before after world asked it.answers it.count
-        → OfEachImage g files (says world (commands_of_work world asked) it.count) → LeavesDone g files says before after world asked status
+    leaves_done : (says : Holds) (before after : Option (List ℕ)) (world : World) (asked : Work) (it : DrivesWork world asked done (file_state again)) → TellsDone before after world asked it.ran it.answers it.count
+        → OfEachImage g files (says world (commands_of_work world asked it.ran) it.count) → LeavesDone g files says before after world asked status
     leaves_done says before after world asked it told held = record {
+      ran = it.ran;
+      are = it.are;
       count = it.count;
       within = it.drives.within;
       answers = it.answers;
@@ -448,7 +368,7 @@ module _ {S W E : Type 0} {c : calls.Ghosts Host} {s : start.Ghosts S} {g : Ghos
   opened_leaves : (says : Holds) (conn again : Held (FileStore (Modelled Host S c s) g)) (path : List ℕ) (asked : Work) (old new : W) (done : Result (Unit {0}) Trouble) (status : ℕ) (files : Files (Modelled Host S c s))
       → IsOpenedAt path (image_at s) conn → DoesOver over_files contents conn again old new asked done → DrivesOver over_files conn again asked done → HasStatus done status
       → HasCleanDisk (file_state again) → OfEachImage g files (λ image. (db : Trees) × (file_state again).may_leave db × HoldsDatabase image db)
-      → ((world : World) (it : DrivesWork world asked done (file_state again)) → OfEachImage g files (says world (commands_of_work world asked) it.count))
+      → ((world : World) (it : DrivesWork world asked done (file_state again)) → OfEachImage g files (says world (commands_of_work world asked it.ran) it.count))
       → (world : World) → IsProject world → ImageRefines (image_at s) world → LeavesDone g files says (contents old) (contents new) world asked status ⊎ LeavesAsItWas g files (image_at s) world status
   opened_leaves says conn again path asked old new done status files at does drives has clean each hold world project start =
       let early : HasCleanDisk (file_state conn) = was_clean contents conn again old new asked done does clean in
@@ -470,7 +390,7 @@ module _ {S W E : Type 0} {c : calls.Ghosts Host} {s : start.Ghosts S} {g : Ghos
       let copied : IsCopied it.again run.files = it.closed.copied honest in
       let each = copied_each it.again run.files stays copied in
       opened_leaves HoldAfter conn it.again _ runs.work run.old opens.mid opens.first end.status run.files opens.does.opened it.does it.drives has copied.was_clean each
-      (λ world works. hold_after it.again run.files each copied.was_open world (commands_of_work world runs.work) works.answers works.count works.is_cut works.drives)
+      (λ world works. hold_after it.again run.files each copied.was_open world (commands_of_work world runs.work works.ran) works.answers works.count works.is_cut works.drives)
 
   pub leaves_its_work_unclosed : (end : End (Modelled Host S c s) g) → LeavesItsWorkUnclosed contents told_of end
   leaves_its_work_unclosed end run =
@@ -483,7 +403,7 @@ module _ {S W E : Type 0} {c : calls.Ghosts Host} {s : start.Ghosts S} {g : Ghos
       let each = unclosed_each it.again run.store it.closed.quiet run.numbered run.files run.files_are honest in
       opened_leaves HoldAfterOneMore conn it.again _ runs.work run.old opens.mid opens.first end.status run.files opens.does.opened it.does it.drives has
       (unclosed_clean it.again run.store it.closed.quiet run.numbered run.files run.files_are honest) each
-      (λ world works. hold_one_more it.again run.files each world (commands_of_work world runs.work) works.answers works.count works.is_cut works.drives)
+      (λ world works. hold_one_more it.again run.files each world (commands_of_work world runs.work works.ran) works.answers works.count works.is_cut works.drives)
 
 -- ---- one after another
 

@@ -28,7 +28,8 @@ use Rattle.wu_report.specs.Texts.{view_text}
 use Rattle.wu_report.specs.Writing.{AppendsFront}
 use Rattle.wu_cli.specs.Repeating.{unrolled}
 use Rattle.wu_cli.specs.Telling.{TellsSteps}
-use Rattle.wu_cli.specs.Working.{commands_of_work}
+use Rattle.wu_cli.specs.Trying.{RanStep}
+use Rattle.wu_cli.specs.Working.{commands_of_work, WorkRanAs}
 use Rattle.wu_cli.specs.declared.work.Work.{Work}
 use Rattle.wu_cli.specs.declared.work.Work.TheVariants as work
 use Rattle.wu_stops.specs.Closing.{IsNumbered}
@@ -75,23 +76,25 @@ module _ {D : Type 0} (g : Ghosts D) (files : Files D) where
 -- What went out reports as many commands as were done. Of a line, these are the texts of the answers, the last one cut
 -- only with `Output`. Of a script, these are the texts of its steps, up to the one that ended it. Of a view, this is a
 -- prefix.
-abbrev pub TellsDone : Option (List ℕ) → Option (List ℕ) → World → Work → List Answer → ℕ → Type 0
-TellsDone before after world (work.Line (Commands commands)) answers count = (end : Option Fault) × WritesAnswers before after answers (record { acknowledged = count; end = end })
-TellsDone before after world (work.Line (Look view)) answers count = AppendsFront before after (view_text world view)
-TellsDone before after world (work.Line (Refused fault)) answers count = AppendsFront before after []
-TellsDone before after world (work.Script script) answers count = (end : Option LineFault) × TellsSteps before after world (unrolled world script.steps) count end
+abbrev pub TellsDone : Option (List ℕ) → Option (List ℕ) → World → Work → List RanStep → List Answer → ℕ → Type 0
+TellsDone before after world (work.Line (Commands commands)) ran answers count = (end : Option Fault) × WritesAnswers before after answers (record { acknowledged = count; end = end })
+TellsDone before after world (work.Line (Look view)) ran answers count = AppendsFront before after (view_text world view)
+TellsDone before after world (work.Line (Refused fault)) ran answers count = AppendsFront before after []
+TellsDone before after world (work.Script script) ran answers count = (end : Option LineFault) × TellsSteps before after world (unrolled world ran) count end
 
 module _ {D : Type 0} (g : Ghosts D) (files : Files D) (says : Holds) (before after : Option (List ℕ)) where
-  -- So many commands of the work were done, in order, each with the machine's reply; with status 0 all were. This
-  -- property holds of each image of the files that a crash may leave.
+  -- So many commands of the work, as its steps ran, were done in order, each with the machine's reply; with status 0 all
+  -- were. This property holds of each image of the files that a crash may leave.
   pub record LeavesDone (world : World) (asked : Work) (status : ℕ) : Type 0 where
+    pub ran : List RanStep
+    pub are : WorkRanAs asked ran
     pub count : ℕ
-    pub within : count ≤ length (commands_of_work world asked)
+    pub within : count ≤ length (commands_of_work world asked ran)
     pub answers : List Answer
-    pub answered : AnswerAll world (take count (commands_of_work world asked)) answers
-    pub told : TellsDone before after world asked answers count
-    pub whole : status ≡ 0 → count ≡ length (commands_of_work world asked)
-    pub held : OfEachImage g files (says world (commands_of_work world asked) count)
+    pub answered : AnswerAll world (take count (commands_of_work world asked ran)) answers
+    pub told : TellsDone before after world asked ran answers count
+    pub whole : status ≡ 0 → count ≡ length (commands_of_work world asked ran)
+    pub held : OfEachImage g files (says world (commands_of_work world asked ran) count)
 
   -- If the disk is clean at the end, this holds of each world of a project that the files held at first.
   abbrev pub LeavesBeginning : Image → Work → ℕ → Type 0
@@ -174,7 +177,7 @@ module _ {S T W E : Type 0} {c d : calls.Ghosts Host} {s : start.Ghosts S} {t : 
     pub next : LeavesItsDone contents told_of second two
     pub done :
         AreClean h two.files.log two.files.db → (world : World) (it : LeavesDone g one.files HoldAfter (contents one.old) (contents (done_by contents told_of first one).runs.mid) world (done_by contents told_of first one).work first.status)
-        → ∥ DoesNext two (done_by contents told_of second two).work (world_after world (commands_of_work world (done_by contents told_of first one).work) it.count) ∥₁
+        → ∥ DoesNext two (done_by contents told_of second two).work (world_after world (commands_of_work world (done_by contents told_of first one).work it.ran) it.count) ∥₁
     pub kept :
         AreClean h two.files.log two.files.db → (world : World) → IsProject world → HoldsWorld (image_at s) world → LeavesAsItWas g one.files (image_at s) world first.status
         → ∥ DoesNext two (done_by contents told_of second two).work world ∥₁
@@ -186,7 +189,7 @@ module _ {S T W E : Type 0} {c d : calls.Ghosts Host} {s : start.Ghosts S} {t : 
     pub next : LeavesItsDone contents told_of second two
     pub done :
         AreClean h two.files.log two.files.db → (world : World) (it : LeavesDone g one.files HoldAfterOneMore (contents one.old) (contents (done_by_unclosed contents told_of first one).runs.mid) world (done_by_unclosed contents told_of first one).work first.status)
-        → ∥ DoesNextAfter two (done_by contents told_of second two).work world (commands_of_work world (done_by_unclosed contents told_of first one).work) it.count ∥₁
+        → ∥ DoesNextAfter two (done_by contents told_of second two).work world (commands_of_work world (done_by_unclosed contents told_of first one).work it.ran) it.count ∥₁
     pub kept :
         AreClean h two.files.log two.files.db → (world : World) → IsProject world → HoldsWorld (image_at s) world → LeavesAsItWas g one.files (image_at s) world first.status
         → ∥ DoesNext two (done_by contents told_of second two).work world ∥₁

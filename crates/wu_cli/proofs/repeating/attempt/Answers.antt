@@ -1,10 +1,47 @@
-use Rattle.std.proofs.Common.{◌∙◌, subst, sym}
+use Rattle.std.proofs.Common.{◌∙◌, Some, None, ap, subst, sym}
+use Rattle.wu_core.specs.declared.fault.Fault.TheVariants.{NotAProject}
 use Rattle.wu_cli.specs.Performing.{Performs}
-use Rattle.wu_cli.proofs.TryLemmas.{refused_full}
+use Rattle.wu_cli.specs.Trying.{Attempts, is_refusal, PassesOver}
+use Rattle.wu_cli.proofs.TryLemmas.{commands_stopped, tries_done, tries_ended, tries_refused}
 use Rattle.wu_cli.proofs.repeating.attempt.Goals as goal
 
-pub returns-then-is_refusal-clause-full : goal.returns-then-is_refusal-clause-full
-returns-then-is_refusal-clause-full g c none going clean world shows =
-    refused_full g.W.Write.contents c.args.project.now c.act-end.new.project c.args.out.now c.act-end.new.out c.args.action.now c.in-Some.fault
-    (subst (λ end. Performs g.W.Write.contents c.args.project.now c.act-end.new.project c.args.out.now c.act-end.new.out c.args.action.now end) c.in-Some.is c.act-end.ensures.does)
-    (sym c.is_refusal.ensures ∙ c.if-is_refusal.true) going clean world shows
+pub returns-in-Commands : goal.returns-in-Commands
+returns-in-Commands g c =
+    let act = c.act-end in
+    let passed = c.pass_over in
+    let told = c.in-Some.is ∙ ap (λ f. Some f) c.in-NotAProject.is in
+    let does = subst (λ a. Performs g.W.Write.contents c.args.project.now act.new.project c.args.out.now act.new.out a (Some NotAProject)) c.in-Commands.is
+    (subst (λ end. Performs g.W.Write.contents c.args.project.now act.new.project c.args.out.now act.new.out c.args.action.now end) told act.ensures.does) in
+    subst (λ a. Attempts g.W.Write.contents c.args.project.now act.new.project c.args.out.now passed.new.out a passed.result) (sym c.in-Commands.is)
+    (commands_stopped g.W.Write.contents c.args.project.now act.new.project c.args.out.now act.new.out passed.new.out c.in-Commands.field-0 passed.result does
+    (subst (λ f. PassesOver g.W.Write.contents act.new.out passed.new.out f passed.result) c.in-NotAProject.is passed.ensures))
+
+pub returns-in_default-action : goal.returns-in_default-action
+returns-in_default-action g c =
+    let act = c.act-end in (
+      None,
+      tries_ended g.W.Write.contents c.args.project.now act.new.project c.args.out.now act.new.out act.new.out c.args.action.now act.result.0 act.ensures.does c.in-Some.fault
+          c.in-Some.is (ap is_refusal c.in-NotAProject.is) (λ commands. absurd (c.in_default-action.not-Commands _ commands)),
+    )
+
+pub returns-then-is_refusal : goal.returns-then-is_refusal
+returns-then-is_refusal g c =
+    let act = c.act-end in
+    let passed = c.pass_over-then-is_refusal in (
+      None,
+      tries_refused g.W.Write.contents c.args.project.now act.new.project c.args.out.now act.new.out passed.new.out c.args.action.now act.result.0 act.ensures.does c.in-Some.fault passed.result
+          c.in-Some.is (sym c.is_refusal.ensures ∙ c.if-is_refusal.true) passed.ensures,
+    )
+
+pub returns-else-is_refusal : goal.returns-else-is_refusal
+returns-else-is_refusal g c =
+    let act = c.act-end in (
+      None,
+      tries_ended g.W.Write.contents c.args.project.now act.new.project c.args.out.now act.new.out act.new.out c.args.action.now act.result.0 act.ensures.does c.in-Some.fault
+          c.in-Some.is (sym c.is_refusal.ensures ∙ c.if-is_refusal.false) (λ commands same. c.in_default.not-NotAProject same),
+    )
+
+pub returns-in-None : goal.returns-in-None
+returns-in-None g c =
+    let act = c.act-end in
+    (None, tries_done g.W.Write.contents c.args.project.now act.new.project c.args.out.now act.new.out act.new.out c.args.action.now act.result.0 act.ensures.does c.in-None.is)
