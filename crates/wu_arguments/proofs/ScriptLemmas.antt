@@ -1,8 +1,8 @@
 -- What the lines of a script ask for, with the exports at its end, one line after the other.
-use Rattle.std.proofs.Common.{◌≡◌, ◌∙◌, ℕ, List, [], ◌∷◌, ◌++◌, Option, Result, Ok, Err, ap, append_assoc, append-nil, inl, inr, refl, subst, sym}
+use Rattle.std.proofs.Common.{◌≡◌, ◌≤◌, ◌∙◌, ℕ, zero, suc, arith, drop, length, map, List, [], ◌∷◌, ◌++◌, None, String, Global, string_bytes, Option, Result, Ok, Err, ap, append_assoc, append-nil, inl, inr, refl, subst, sym}
 use Rattle.std.specs.List.{AllZip}
 use Rattle.wu_feed.specs.declared.script.ScriptLine.{ScriptLine}
-use Rattle.wu_arguments.specs.Scripts.{export_asked}
+use Rattle.wu_arguments.specs.Scripts.{export_asked, stranger_among}
 use Rattle.wu_arguments.specs.Steps.{AskFor, AsksExport, AsksStep, GivesStep, IsBadAfter, Takes}
 use Rattle.wu_arguments.specs.declared.order.Export.{Export}
 use Rattle.wu_arguments.specs.declared.refusal.Outsider.TheVariants as outsider
@@ -13,35 +13,11 @@ use Rattle.wu_arguments.specs.declared.step.Step.{Step}
 -- ---- a refusal that asks for an export
 
 export_is : (why : Refusal) (export : Export) → export_asked why ≡ Ok export → why ≡ refusal.Outsider (outsider.Export export)
-export_is (refusal.Text cause) export is = absurd cc
-export_is (refusal.Words usage) export is = absurd cc
-export_is (refusal.Outsider outsider.Script) export is = absurd cc
-export_is (refusal.Outsider outsider.Session) export is = absurd cc
-export_is (refusal.Outsider outsider.Check) export is = absurd cc
-export_is (refusal.Outsider (outsider.Export it)) export is = cc
-export_is (refusal.Outsider outsider.Lint) export is = absurd cc
-export_is (refusal.Outsider outsider.Explanation) export is = absurd cc
-export_is (refusal.Outsider outsider.Help) export is = absurd cc
-export_is refusal.Repeat export is = absurd cc
-export_is refusal.Try export is = absurd cc
-export_is refusal.AfterExport export is = absurd cc
-export_is (refusal.Fault fault) export is = absurd cc
+export_is why export is = grind arith
 
 -- one that asks for none is handed on
 refused_is : (asked why : Refusal) → export_asked asked ≡ Err why → asked ≡ why
-refused_is (refusal.Text cause) why is = cc
-refused_is (refusal.Words usage) why is = cc
-refused_is (refusal.Outsider outsider.Script) why is = cc
-refused_is (refusal.Outsider outsider.Session) why is = cc
-refused_is (refusal.Outsider outsider.Check) why is = cc
-refused_is (refusal.Outsider (outsider.Export it)) why is = absurd cc
-refused_is (refusal.Outsider outsider.Lint) why is = cc
-refused_is (refusal.Outsider outsider.Explanation) why is = cc
-refused_is (refusal.Outsider outsider.Help) why is = cc
-refused_is refusal.Repeat why is = cc
-refused_is refusal.Try why is = cc
-refused_is refusal.AfterExport why is = cc
-refused_is (refusal.Fault fault) why is = cc
+refused_is asked why is = grind arith
 
 -- ---- lists side by side
 
@@ -112,3 +88,12 @@ module _ (gives : List ℕ → ℕ → Option (List ℕ) → Type 0) (db : List 
   not_taken steps more_steps exports more_exports line (Err asked) why gave (inr is) =
       let same = refused_is asked why is in
       inr (inl (subst (λ w. GivesStep gives db line (Err w)) same gave, subst (λ w. export_asked w ≡ Err why) same is))
+
+-- ---- the words of a line
+
+-- behind the last word there is none that stands in no line
+pub none_among : (words : List (String Global)) (i : ℕ) → length words ≤ i → stranger_among (map string_bytes (drop i words)) ≡ None
+none_among [] zero h = refl
+none_among [] (suc i) h = refl
+none_among (word ∷ words) zero h = absurd (omega arith)
+none_among (word ∷ words) (suc i) h = none_among words i (omega (arith, h))

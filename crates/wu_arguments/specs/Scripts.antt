@@ -33,6 +33,27 @@ outsider_word word =
 abbrev pub outsider_first : List (List ℕ) → Option Outsider
 outsider_first words = option_map_or outsider_word (slice_get words 0) None
 
+-- What a word asks for that stands in no line: help, or a database of the line's own.
+abbrev pub stranger_word : List ℕ → Option Outsider
+stranger_word word =
+    if bytes_eq word (codes "--db") then Some outsider.Database
+    else if bytes_eq word (codes "--help") then Some outsider.Help
+    else if bytes_eq word (codes "-h") then Some outsider.Help else None
+
+-- What is asked for, or else this.
+abbrev pub or_else : Option Outsider → Option Outsider → Option Outsider
+or_else None other = other
+or_else (Some outsider) other = Some outsider
+
+-- What the first such word of these asks for.
+abbrev pub stranger_among : List (List ℕ) → Option Outsider
+stranger_among [] = None
+stranger_among (word ∷ words) = or_else (stranger_word word) (stranger_among words)
+
+-- What a line of these words asks for, if one of them says that it is none of a script.
+abbrev pub outsider_of_words : List (List ℕ) → Option Outsider
+outsider_of_words words = or_else (outsider_first words) (stranger_among words)
+
 -- What a script may not contain: another script, a session, a check, an export, a lint or an explanation.
 abbrev pub outsider_of : Order → Option Outsider
 outsider_of (order.Line line) = None
@@ -69,12 +90,12 @@ ReadsCommand words (Err refusal.Try) = ⊥
 ReadsCommand words (Err refusal.AfterExport) = ⊥
 ReadsCommand words (Err (refusal.Fault fault)) = fault ≡ Memory
 
--- If the first word of a script's line says that it takes no database, the line is refused for that. Else its words
--- read as a command line.
+-- If a word of a script's line says that it is none, the line is refused for that. Else its words read as a command
+-- line.
 abbrev pub ReadsWords : List ℕ → List (List ℕ) → Result Line Refusal → Type 0
 ReadsWords db words result =
-    ((outsider : Outsider) × (outsider_first words ≡ Some outsider) × (result ≡ Err (refusal.Outsider outsider)))
-    ⊎ ((outsider_first words ≡ None) × ReadsCommand (command_words db words) result)
+    ((outsider : Outsider) × (outsider_of_words words ≡ Some outsider) × (result ≡ Err (refusal.Outsider outsider)))
+    ⊎ ((outsider_of_words words ≡ None) × ReadsCommand (command_words db words) result)
 
 -- Whether a line is one pass, which can be repeated.
 abbrev pub is_pass : Asking → Bool

@@ -24,6 +24,8 @@ pub enum Outsider {
     Lint,
     Explanation,
     Help,
+    /// A database of the line's own.
+    Database,
 }
 
 /// Why a line of a script cannot be run.

@@ -1,7 +1,7 @@
 //! The lines of a script as lines of the command line.
 
 ghost use Rattle.std.specs.Prelude.{◌≡◌, ◌++◌, ◌∷◌, ◌<◌, codes, drop, IfOk, length, map, string_bytes};
-ghost use Rattle.wu_arguments.specs.Scripts.{begins_line, command_words, may_be_line, mode_of, mode_of_word, outsider_first, outsider_word, ReadsRepeated, ReadsTried, ReadsWords, ReadsWordsOf};
+ghost use Rattle.wu_arguments.specs.Scripts.{begins_line, command_words, may_be_line, mode_of, mode_of_word, outsider_first, outsider_of_words, outsider_word, ReadsRepeated, ReadsTried, ReadsWords, ReadsWordsOf, stranger_among, stranger_word};
 
 use crate::line::{Asking, Line};
 use crate::order::Order;
@@ -61,11 +61,45 @@ fn outsider_first(words: &[String]) -> Option<Outsider>
     }
 }
 
+/// Returns what a word asks for that stands in no line: help, or a database of the line's own.
+fn stranger_word(word: &str) -> Option<Outsider>
+    ensures { result ≡ stranger_word word.now }
+{
+    match word {
+        "--db" => Some(Outsider::Database),
+        "--help" => Some(Outsider::Help),
+        "-h" => Some(Outsider::Help),
+        _ => None,
+    }
+}
+
+/// Returns what the first such word of these asks for.
+fn stranger_among(words: &[String]) -> Option<Outsider>
+    ensures { result ≡ stranger_among (map string_bytes words.now) }
+{
+    for word in words {
+        if let Some(outsider) = stranger_word(word.as_str()) {
+            return Some(outsider);
+        }
+    }
+    None
+}
+
+/// Returns what a line of these words asks for, if one of them says that it is none of a script.
+fn outsider_of_words(words: &[String]) -> Option<Outsider>
+    ensures { result ≡ outsider_of_words (map string_bytes words.now) }
+{
+    match outsider_first(words) {
+        Some(outsider) => Some(outsider),
+        None => stranger_among(words),
+    }
+}
+
 /// Returns the line that these words of a script ask for.
 fn line_of_words(alloc: Global, db: &str, words: Words) -> Result<Line, Refusal>
     ensures { ReadsWords db.now words result }
 {
-    if let Some(outsider) = outsider_first(words.as_slice()) {
+    if let Some(outsider) = outsider_of_words(words.as_slice()) {
         return Err(Refusal::Outsider(outsider));
     }
     let words = words_of_command(alloc, db, words)?;

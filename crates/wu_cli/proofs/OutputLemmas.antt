@@ -1,5 +1,5 @@
 -- Rows that are taken one after another have their files.
-use Rattle.std.proofs.Common.{◌≡◌, ◌∙◌, ◌+◌, ◌∷◌, ℕ, suc, arith, Bool, true, false, List, [], All, length, None, Result, Ok, Err, ap, inl, inr, refl, subst, sym}
+use Rattle.std.proofs.Common.{◌≡◌, ◌∙◌, ◌+◌, ◌∷◌, ℕ, suc, arith, Bool, true, false, List, [], length, None, Result, Ok, Err, ap, inl, inr, refl, subst, sym}
 use Rattle.std.proofs.lemmas.List.Elements.{All-cons, All-nil}
 use Rattle.wu_core.specs.declared.fault.Fault.{Fault}
 use Rattle.wu_core.specs.declared.workunit.Archived.{Archived}

@@ -1,5 +1,5 @@
 -- Troubles that are handed on, and the words of those of a backup.
-use Rattle.std.proofs.Common.{◌≡◌, ◌++◌, Result, Ok, Err, ap, refl}
+use Rattle.std.proofs.Common.{◌≡◌, ◌++◌, Result, Ok, Err, ap, arith}
 use Rattle.std.specs.Prelude.{IsErrAnd, codes}
 use Rattle.wu_report.specs.Texts.{line_end}
 use Rattle.wu_cli.specs.Backups.{unmade_line, unmade_words}
@@ -14,12 +14,4 @@ handed_on (Err other) told same = ap Err same
 
 -- Any reason but the want of memory is told in the words of a backup.
 pub unmade_told : (why : Unmade) → (why ≡ unmade.Memory → ⊥) → unmade_line why ≡ codes "cannot make the backup: " ++ (unmade_words why ++ line_end)
-unmade_told unmade.Taken other = refl
-unmade_told unmade.OtherBytes other = refl
-unmade_told unmade.LogName other = refl
-unmade_told unmade.LogBeside other = refl
-unmade_told unmade.PartBeside other = refl
-unmade_told unmade.NoFolder other = refl
-unmade_told unmade.FullDisk other = refl
-unmade_told unmade.Refused other = refl
-unmade_told unmade.Memory other = absurd (other refl)
+unmade_told why other = grind arith

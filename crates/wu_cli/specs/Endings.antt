@@ -63,6 +63,7 @@ outsider_line (outsider.Export (export.Outputs files)) = codes "outputs cannot s
 outsider_line outsider.Lint = codes "a lint is no line of a script or a session" ++ line_end
 outsider_line outsider.Explanation = codes "an explanation is no line of a script or a session" ++ line_end
 outsider_line outsider.Help = codes "help is no line of a script or a session" ++ line_end
+outsider_line outsider.Database = codes "--db cannot stand here" ++ line_end
 
 abbrev pub refusal_text : Refusal → List ℕ
 refusal_text (refusal.Text cause) = cause_text cause

@@ -198,6 +198,7 @@ fn outsider_line(outsider: &Outsider) -> &'static str
         Outsider::Lint => "a lint is no line of a script or a session\n",
         Outsider::Explanation => "an explanation is no line of a script or a session\n",
         Outsider::Help => "help is no line of a script or a session\n",
+        Outsider::Database => "--db cannot stand here\n",
     }
 }
 

@@ -1,4 +1,4 @@
-use Rattle.std.proofs.Common.{[], ◌∷◌, ◌++◌, None, inl, inr, refl, subst}
+use Rattle.std.proofs.Common.{[], ◌∷◌, ◌++◌, inl, inr, refl, subst}
 use Rattle.wu_cli.specs.Hearing.{heard_text}
 use Rattle.wu_cli.specs.Sessions.{AnswersHeard}
 use Rattle.wu_cli.proofs.AcceptLemmas.{runs_session}
