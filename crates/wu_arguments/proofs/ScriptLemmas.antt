@@ -1,8 +1,9 @@
 -- What the lines of a script ask for, with the exports at its end, one line after the other.
-use Rattle.std.proofs.Common.{◌≡◌, ◌≤◌, ◌∙◌, ℕ, zero, suc, arith, drop, length, map, List, [], ◌∷◌, ◌++◌, None, String, Global, string_bytes, Option, Result, Ok, Err, ap, append_assoc, append-nil, inl, inr, refl, subst, sym}
+use Rattle.std.proofs.Common.{◌≡◌, ◌<◌, ◌+◌, ◌∙◌, ℕ, arith, drop, get_or, length, map, List, [], ◌∷◌, ◌++◌, String, Global, string_bytes, Option, Result, Ok, Err, ap, append_assoc, append-nil, inl, inr, refl, subst, sym}
+use Rattle.std.proofs.lemmas.List.{at_drop_more}
 use Rattle.std.specs.List.{AllZip}
 use Rattle.wu_feed.specs.declared.script.ScriptLine.{ScriptLine}
-use Rattle.wu_arguments.specs.Scripts.{export_asked, stranger_among}
+use Rattle.wu_arguments.specs.Scripts.{export_asked, or_else, stranger_among, stranger_word}
 use Rattle.wu_arguments.specs.Steps.{AskFor, AsksExport, AsksStep, GivesStep, IsBadAfter, Takes}
 use Rattle.wu_arguments.specs.declared.order.Export.{Export}
 use Rattle.wu_arguments.specs.declared.refusal.Outsider.TheVariants as outsider
@@ -91,9 +92,9 @@ module _ (gives : List ℕ → ℕ → Option (List ℕ) → Type 0) (db : List 
 
 -- ---- the words of a line
 
--- behind the last word there is none that stands in no line
-pub none_among : (words : List (String Global)) (i : ℕ) → length words ≤ i → stranger_among (map string_bytes (drop i words)) ≡ None
-none_among [] zero h = refl
-none_among [] (suc i) h = refl
-none_among (word ∷ words) zero h = absurd (omega arith)
-none_among (word ∷ words) (suc i) h = none_among words i (omega (arith, h))
+-- what stands in no line among the words from one on is that word, or among those behind it
+pub among_from : (words : List (String Global)) (i : ℕ) (word : String Global) → i < length words → word ≡ get_or words i word
+    → stranger_among (map string_bytes (drop i words)) ≡ or_else (stranger_word (string_bytes word)) (stranger_among (map string_bytes (drop (i + 1) words)))
+among_from words i word within is =
+    at_drop_more (λ ws. stranger_among (map string_bytes ws)) words i word within
+    ∙ ap (λ w. or_else (stranger_word (string_bytes w)) (stranger_among (map string_bytes (drop (i + 1) words)))) (sym is)

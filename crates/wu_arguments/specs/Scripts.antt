@@ -1,5 +1,6 @@
 -- Lines of a script, as lines of the command line.
-use Rattle.std.specs.Prelude.{◌≡◌, ◌⊎◌, ℕ, Bool, true, false, List, ◌∷◌, [], ◌++◌, bytes_eq, codes, drop, if◌then◌else◌, slice_get, Option, Some, None, Result, Ok, Err}
+use Rattle.std.specs.Prelude.{◌≡◌, ◌⊎◌, ℕ, Bool, true, false, List, ◌∷◌, [], ◌++◌, bytes_eq, codes, drop, eqb, if◌then◌else◌, slice_get, Option, Some, None, Result, Ok, Err}
+use Rattle.std.specs.List.{starts_with}
 use Rattle.std.specs.Option.{option_map_or}
 use Rattle.wu_core.specs.declared.fault.Fault.TheVariants.{Memory}
 use Rattle.wu_feed.specs.declared.script.LineCause.{LineCause}
@@ -33,12 +34,13 @@ outsider_word word =
 abbrev pub outsider_first : List (List ℕ) → Option Outsider
 outsider_first words = option_map_or outsider_word (slice_get words 0) None
 
--- What a word asks for that stands in no line: help, or a database of the line's own.
+-- What a word asks for that stands in no line: help, or a database of the line's own, as `--db` or `--db=PATH`.
 abbrev pub stranger_word : List ℕ → Option Outsider
 stranger_word word =
     if bytes_eq word (codes "--db") then Some outsider.Database
     else if bytes_eq word (codes "--help") then Some outsider.Help
-    else if bytes_eq word (codes "-h") then Some outsider.Help else None
+    else if bytes_eq word (codes "-h") then Some outsider.Help
+    else if starts_with eqb word (codes "--db=") then Some outsider.Database else None
 
 -- What is asked for, or else this.
 abbrev pub or_else : Option Outsider → Option Outsider → Option Outsider

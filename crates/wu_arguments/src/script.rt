@@ -61,14 +61,14 @@ fn outsider_first(words: &[String]) -> Option<Outsider>
     }
 }
 
-/// Returns what a word asks for that stands in no line: help, or a database of the line's own.
+/// Returns what a word asks for that stands in no line: help, or a database of the line's own, as `--db` or `--db=PATH`.
 fn stranger_word(word: &str) -> Option<Outsider>
     ensures { result ≡ stranger_word word.now }
 {
     match word {
         "--db" => Some(Outsider::Database),
-        "--help" => Some(Outsider::Help),
-        "-h" => Some(Outsider::Help),
+        "--help" | "-h" => Some(Outsider::Help),
+        _ if word.as_bytes().starts_with(b"--db=") => Some(Outsider::Database),
         _ => None,
     }
 }

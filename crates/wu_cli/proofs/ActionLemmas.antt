@@ -155,6 +155,14 @@ module _ {S W : Type 0} {store : Ghosts S} (contents : W → Option (List ℕ)) 
       let none = shown_none (older_version old) refl (sees.refused.older going) in
       up_to_date world shows.is_project (none_older world.version (sym none ∙ shows.version))
 
+  -- a view leaves the world as it is, whatever ends it
+  pub seen_shows : (view : View) (end : Option Fault) → Sees contents old new out_old out_new view (as_result end) → HasCleanDisk (state_of new) → (world : World) → ShowsProject old world → ShowsProject new world
+  seen_shows view end sees clean world shows =
+      record { is_project = shows.is_project; version = sees.version ∙ shows.version; shows = shows_back (state_of old) (state_of new) world (sees.reads.back clean) shows.shows }
+
+  pub seen_over : (view : View) (end : Option Fault) → Sees contents old new out_old out_new view (as_result end) → HasCleanDisk (state_of new) → (world : World) → IsOver old world → IsOver new world
+  seen_over view end sees clean world over = record { is_project = over.is_project; version = sees.version ∙ over.version; goes = sees.goes clean world over.goes }
+
   -- and all of them, where it ends without a fault
   pub one_done : (action : Action) → Performs contents old new out_old out_new action None
       → IsSessionOpen old → HasCleanDisk (state_of new) → (world : World) → ShowsProject old world
@@ -166,8 +174,7 @@ module _ {S W : Type 0} {store : Ghosts S} (contents : W → Option (List ℕ)) 
         subst (λ cs. AnswerAll world cs runs.answers.0) all drives.answered,
         subst (λ cs. ShowsProject new (world_of world cs)) all drives.shows,
       )
-  one_done (Look view) sees going clean world shows =
-      ([], tt, record { is_project = shows.is_project; version = sees.version ∙ shows.version; shows = shows_back (state_of old) (state_of new) world (sees.reads.back clean) shows.shows })
+  one_done (Look view) sees going clean world shows = ([], tt, seen_shows view None sees clean world shows)
   one_done (Refused why) kept going clean world shows = absurd (let no = kept.2 in cc)
 
   -- where a stop could leave that world alone, it then leaves the one behind alone
@@ -182,5 +189,5 @@ module _ {S W : Type 0} {store : Ghosts S} (contents : W → Option (List ℕ)) 
         version = done.2.version;
         goes = subst (λ cs. GoesOn (state_of new) (world_of world cs)) all (drives.goes (one_goes (Commands commands) (run, runs, end) going));
       }
-  one_over (Look view) sees going clean world over = record { is_project = over.is_project; version = sees.version ∙ over.version; goes = sees.goes clean world over.goes }
+  one_over (Look view) sees going clean world over = seen_over view None sees clean world over
   one_over (Refused why) kept going clean world over = absurd (let no = kept.2 in cc)

@@ -1,5 +1,6 @@
 -- What goes out for an action and for the steps of a script.
-use Rattle.std.proofs.Common.{◌≡◌, ◌∙◌, ◌⊎◌, ◌++◌, ◌∷◌, [], ℕ, List, Option, Some, None, IfSome, IsSome, refl, sym, ap, subst, arith, inl, inr, append_assoc, append-nil, take, drop, take-append-drop, true}
+use Rattle.std.proofs.Common.{◌≡◌, ◌∙◌, ◌⊎◌, ◌++◌, ◌∷◌, [], ℕ, List, Option, Some, None, IfSome, IsSome, ◌+◌, ◌-◌, length, length-append, length-take, refl, sym, ap, subst, arith, inl, inr, append_assoc, append-nil, take, drop, take-append-drop, true}
+use Rattle.std.proofs.lemmas.List.{take_min}
 use Rattle.std.proofs.KnownBytes.{Appends-nil, Appends-trans}
 use Rattle.std.proofs.Math.Seq.{take-length}
 use Rattle.std.specs.Io.KnownBytes.{Appends}
@@ -32,11 +33,11 @@ use Rattle.wu_arguments.specs.declared.script.Mode.TheVariants.{Once, Repeated, 
 use Rattle.wu_arguments.specs.declared.step.LineFault.{LineFault}
 use Rattle.wu_arguments.specs.declared.step.Step.{Step}
 use Rattle.wu_cli.specs.Endings.{fault_line}
-use Rattle.wu_cli.specs.Performing.{as_result, commands_of_action, Performs}
-use Rattle.wu_cli.specs.Printing.{printed_accepted, printed_as, printed_by, printed_replies, printed_reply, printed_steps, PrintsAction, PrintsSteps, shown_text}
+use Rattle.wu_cli.specs.Performing.{as_result, Performs}
+use Rattle.wu_cli.specs.Printing.{printed_accepted, printed_as, printed_by, printed_replies, printed_reply, printed_steps, printed_until, PrintsAction, PrintsSteps, shown_text}
 use Rattle.wu_cli.specs.Repeating.{commands_of_step, commands_of_steps, unrolled, world_behind}
 use Rattle.wu_cli.specs.Scripting.{PerformsEach, PerformsScript, PerformsSteps}
-use Rattle.wu_cli.specs.Trying.{accepted, EndsTried, is_refusal, PassesOver, PerformsAs, PerformsBy, PerformsRan, RanStep, refusal_line, refusal_of, Stops}
+use Rattle.wu_cli.specs.Trying.{accepted, EndsTried, is_refusal, PassesOver, PerformsAs, PerformsBy, PerformsRan, RanStep, growth, refusal_line, refusal_of, Stops, StopsAction}
 use Rattle.wu_cli.specs.Working.{line_outcome, script_outcome}
 use Rattle.wu_cli.proofs.ActionLemmas.{shown_present, world_both, world_of}
 use Rattle.wu_cli.proofs.ScriptLemmas.{each_clean, each_done, each_goes}
@@ -71,6 +72,15 @@ steps_both world (x ∷ xs) ys =
     ap (λ more. text ++ more) rest ∙ sym (append_assoc text (printed_steps mid xs) (printed_steps (world_of world (mine ++ commands_of_steps mid xs)) ys))
 
 -- ---- one action
+
+-- a prefix that went out is as long as the contents grew
+grown_front : (before after : Option (List ℕ)) (text : List ℕ) (told : ℕ) → Appends before after (take told text) → Appends before after (take (growth before after) text)
+grown_front None after text told front = tt
+grown_front (Some old) None text told front = absurd front
+grown_front (Some old) (Some new) text told front =
+    let long : length new ≡ length old + length (take told text) = ap length front ∙ length-append old (take told text) in
+    let all : length new - length old ≡ length (take told text) = omega (arith, long) in
+    subst (λ bytes. new ≡ old ++ bytes) (sym (ap (λ k. take k text) (all ∙ length-take told text) ∙ take_min told text)) front
 
 -- a world of the present version has classes
 with_classes : (world : World) → IsUpToDate world → KnowsClasses world
@@ -181,7 +191,7 @@ module _ {S W : Type 0} {store : Ghosts S} (contents : W → Option (List ℕ)) 
   passed_prints out_old out_done out_new text fault (Some end) whole passed =
       AppendsFront-after (contents out_old) (contents out_done) (contents out_new) text (fault_line fault) whole passed.1
 
-  tried_prints : (out_old out_done out_new : W) (action : Action) (told end : Option Fault) → Performs contents old new out_old out_done action told → EndsTried contents out_done out_new action told end
+  tried_prints : (out_old out_done out_new : W) (action : Action) (told end : Option Fault) → Performs contents old new out_old out_done action told → EndsTried contents out_done out_new told end
       → IsSessionOpen old → HasCleanDisk (state_of new) → (world : World) → ShowsProject old world → WritesTo contents out_old out_new (printed_by Tried world action) (line_outcome end)
   tried_prints out_old out_done out_new action None end does (none, same) going clean world shows =
       let no_line : printed_accepted world action ++ [] ≡ printed_by Tried world action =
@@ -208,21 +218,31 @@ module _ {S W : Type 0} {store : Ghosts S} (contents : W → Option (List ℕ)) 
   by_prints out_old out_new Repeated action end does = one_prints contents old new out_old out_new action end does
   by_prints out_old out_new Tried action end tries = tried_prints out_old tries.out_done out_new action tries.told end tries.does tries.ends
 
-  -- one that the store stopped: the answers to the commands before the refused one
+  -- one that the store stopped: the answers to the commands before the refused one, or so many bytes of the view
+  action_prints : (out_old out_done : W) (action : Action) (count : ℕ) → StopsAction contents old new out_old out_done action count
+      → IsSessionOpen old → HasCleanDisk (state_of new) → (world : World) → ShowsProject old world
+      → Appends (contents out_old) (contents out_done) (printed_until count world action)
+  action_prints out_old out_done (Commands commands) count runs going clean world shows =
+      let (answers, written, drives, drives_from) = runs.answers in
+      let driven = drives_from going clean world shows in
+      subst (Appends (contents out_old) (contents out_done)) (replies_are world (take count commands) answers driven.answered)
+      (written.whole (λ cut. absurd (let no : ◌≡◌ {A = Option Fault} (Some NotAProject) (Some Output) = cut in cc)))
+  action_prints out_old out_done (Look view) count (sees, long) going clean world shows =
+      let (told, front) = one_prints contents old new out_old out_done (Look view) (Some NotAProject) sees going clean world shows in
+      subst (λ k. Appends (contents out_old) (contents out_done) (take k (view_text world view))) (sym long)
+      (grown_front (contents out_old) (contents out_done) (view_text world view) told front)
+  action_prints out_old out_done (Refused why) count kept going clean world shows = subst (λ o. Appends (contents out_old) (contents o) []) (sym kept.1) (Appends-nil (contents out_old))
+
   pub stop_prints : (out_old out_new : W) (mode : Mode) (action : Action) (count : ℕ) (end : Option Fault) (stops : Stops contents old new out_old out_new mode action count end)
       → IsSessionOpen old → HasCleanDisk (state_of new) → (world : World) → ShowsProject old world
-      → Appends (contents out_old) (contents stops.out_done) (printed_replies world (take count (commands_of_action action)))
-  stop_prints out_old out_new mode action count end stops going clean world shows =
-      let (answers, written, drives, drives_from) = stops.runs.answers in
-      let driven = drives_from going clean world shows in
-      subst (Appends (contents out_old) (contents stops.out_done)) (replies_are world (take count (commands_of_action action)) answers driven.answered)
-      (written.whole (λ cut. absurd (let no : ◌≡◌ {A = Option Fault} (Some NotAProject) (Some Output) = cut in cc)))
+      → Appends (contents out_old) (contents stops.out_done) (printed_until count world action)
+  stop_prints out_old out_new mode action count end stops = action_prints out_old stops.out_done action count stops.does
 
   as_prints : (out_old out_new : W) (stop : Option ℕ) (mode : Mode) (action : Action) (end : Option Fault) → PerformsAs contents stop mode old new out_old out_new action end
       → IsSessionOpen old → HasCleanDisk (state_of new) → (world : World) → ShowsProject old world → WritesTo contents out_old out_new (printed_as stop mode world action) (line_outcome end)
   as_prints out_old out_new None mode action end does going clean world shows = by_prints out_old out_new mode action end does going clean world shows
   as_prints out_old out_new (Some count) mode action end stops going clean world shows =
-      passed_prints out_old stops.out_done out_new (printed_replies world (take count (commands_of_action action))) NotAProject end
+      passed_prints out_old stops.out_done out_new (printed_until count world action) NotAProject end
       (stop_prints out_old out_new mode action count end stops going clean world shows) stops.passed
 
   ran_prints : (out_old out_new : W) (ran : RanStep) (end : Option Fault) → PerformsRan contents ran old new out_old out_new end

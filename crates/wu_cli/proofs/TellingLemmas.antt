@@ -72,7 +72,7 @@ module _ {S W : Type 0} {store : Ghosts S} (contents : W → Option (List ℕ)) 
 
   -- where it was tried
   tried_tells : (old new : Project S store) (out_old out_done out_new : W) (action : Action) (told : Option Fault) (fault : Fault) → Performs contents old new out_old out_done action told
-      → EndsTried contents out_done out_new action told (Some fault) → IsSessionOpen old → HasCleanDisk (state_of new) → (world : World) → IsOver old world
+      → EndsTried contents out_done out_new told (Some fault) → IsSessionOpen old → HasCleanDisk (state_of new) → (world : World) → IsOver old world
       → (answers : List Answer) × (count : ℕ) × (is_cut : Bool) × Drives world (commands_by Tried world action) answers (so_far count) is_cut (state_of new)
       × TellsBy Tried (contents out_old) (contents out_new) world action count fault
   tried_tells old new out_old out_done out_new action None fault does (none, same) going clean world over = no_end fault (sym none)

@@ -34,8 +34,8 @@ use Rattle.wu_arguments.specs.declared.script.Mode.TheVariants.{Once, Repeated, 
 use Rattle.wu_cli.specs.Performing.{as_result, commands_of_action, Performs}
 use Rattle.wu_cli.specs.Repeating.{commands_as, commands_by, commands_of_step}
 use Rattle.wu_cli.specs.Scripting.{so_far}
-use Rattle.wu_cli.specs.Trying.{accepted, AreCommands, Attempts, EndsTried, first_refusal, if_accepted, is_refusal, PassesOver, PerformsAs, PerformsBy, PerformsRan, RanStep, refusal_of, refused_or, stopped_at, Stops, Tries}
-use Rattle.wu_cli.proofs.ActionLemmas.{one_clean, one_done, one_goes, one_over, same_command, shown_present, world_of}
+use Rattle.wu_cli.specs.Trying.{accepted, Attempts, EndsTried, first_refusal, growth, if_accepted, is_refusal, PassesOver, PerformsAs, PerformsBy, PerformsRan, RanStep, refusal_of, refused_or, stopped_at, Stops, StopsAction, Tries}
+use Rattle.wu_cli.proofs.ActionLemmas.{one_clean, one_done, one_goes, one_over, same_command, seen_over, seen_shows, shown_present, world_of}
 
 -- ---- the commands that the machine accepts
 
@@ -298,13 +298,13 @@ pub no_end : {P : Type 0} (fault : Fault) → ◌≡◌ {A = Option Fault} None 
 no_end fault same = absurd (cc)
 
 module _ {S W : Type 0} {store : Ghosts S} (contents : W → Option (List ℕ)) (old new : Project S store) where
-  tried_goes : (out_old out_done out_new : W) (action : Action) (told : Option Fault) → Performs contents old new out_old out_done action told → EndsTried contents out_done out_new action told None
+  tried_goes : (out_old out_done out_new : W) (action : Action) (told : Option Fault) → Performs contents old new out_old out_done action told → EndsTried contents out_done out_new told None
       → IsSessionOpen old → IsSessionOpen new
   tried_goes out_old out_done out_new action None does ends going = one_goes contents old new out_old out_done action does going
   tried_goes out_old out_done out_new action (Some fault) does (inl (refused, passed)) going = refused_goes contents old new out_old out_done action fault does refused going
   tried_goes out_old out_done out_new action (Some fault) does (inr (other, no_stop, is, same)) going = no_end fault is
 
-  tried_done : (out_old out_done out_new : W) (action : Action) (told : Option Fault) → Performs contents old new out_old out_done action told → EndsTried contents out_done out_new action told None
+  tried_done : (out_old out_done out_new : W) (action : Action) (told : Option Fault) → Performs contents old new out_old out_done action told → EndsTried contents out_done out_new told None
       → IsSessionOpen old → HasCleanDisk (state_of new) → (world : World) → ShowsProject old world
       → (answers : List Answer) × AnswerAll world (commands_by Tried world action) answers × ShowsProject new (world_of world (commands_by Tried world action))
   tried_done out_old out_done out_new action None does ends going clean world shows =
@@ -317,7 +317,7 @@ module _ {S W : Type 0} {store : Ghosts S} (contents : W → Option (List ℕ)) 
   tried_done out_old out_done out_new action (Some fault) does (inl (refused, passed)) going clean world shows = refused_done contents old new out_old out_done action fault does refused going clean world shows
   tried_done out_old out_done out_new action (Some fault) does (inr (other, no_stop, is, same)) going clean world shows = no_end fault is
 
-  tried_over : (out_old out_done out_new : W) (action : Action) (told : Option Fault) → Performs contents old new out_old out_done action told → EndsTried contents out_done out_new action told None
+  tried_over : (out_old out_done out_new : W) (action : Action) (told : Option Fault) → Performs contents old new out_old out_done action told → EndsTried contents out_done out_new told None
       → IsSessionOpen old → HasCleanDisk (state_of new) → (world : World) → IsOver old world → IsOver new (world_of world (commands_by Tried world action))
   tried_over out_old out_done out_new action None does ends going clean world over =
       let all = (all_accepted contents old new out_old out_done action does going clean world (over_shows old world over)).0 in
@@ -345,30 +345,68 @@ module _ {S W : Type 0} {store : Ghosts S} (contents : W → Option (List ℕ)) 
 
 -- ---- an action that the store stopped
 
+-- of no commands none are done
+none_taken : (count : ℕ) → take {A = Command} count [] ≡ []
+none_taken zero = refl
+none_taken (suc count) = refl
+
 stop_ends_nothing : MayEnd NotAProject → ⊥
 stop_ends_nothing (inl is) = absurd (cc)
 stop_ends_nothing (inr is) = absurd (cc)
 
-module _ {S W : Type 0} {store : Ghosts S} (contents : W → Option (List ℕ)) (old new : Project S store) (out_old out_new : W) (mode : Mode) (action : Action) (count : ℕ) (end : Option Fault)
-    (stops : Stops contents old new out_old out_new mode action count end) where
-  stop_goes : IsSessionOpen old → IsSessionOpen new
-  stop_goes going = elim (cases_Bool (has_ended new)) [
+module _ {S W : Type 0} {store : Ghosts S} (contents : W → Option (List ℕ)) (old new : Project S store) (out_old out_new : W) where
+  action_goes : (action : Action) (count : ℕ) → StopsAction contents old new out_old out_new action count → IsSessionOpen old → IsSessionOpen new
+  action_goes (Commands commands) count runs going = elim (cases_Bool (has_ended new)) [
     | inl over ↦
-        let ends = stops.runs.ends going over in
+        let ends = runs.ends going over in
         absurd (stop_ends_nothing (subst (λ f. MayEnd f) (one_fault ends.0 NotAProject (sym ends.1)) ends.2))
     | inr still ↦ still
   ]
+  action_goes (Look view) count (sees, long) going = elim (cases_Bool (has_ended new)) [
+    | inl over ↦ absurd (stop_ends_nothing (inr (same_error NotAProject Broken (sees.ends going over))))
+    | inr still ↦ still
+  ]
+  action_goes (Refused why) count kept going = subst (λ p. IsSessionOpen p) (sym kept.0) going
+
+  action_done : (action : Action) (count : ℕ) → StopsAction contents old new out_old out_new action count → IsSessionOpen old → HasCleanDisk (state_of new) → (world : World) → ShowsProject old world
+      → (answers : List Answer) × AnswerAll world (take count (commands_of_action action)) answers × ShowsProject new (world_of world (take count (commands_of_action action)))
+  action_done (Commands commands) count runs going clean world shows =
+      let driven = runs.answers.3 going clean world shows in
+      (runs.answers.0, driven.answered, driven.shows)
+  action_done (Look view) count (sees, long) going clean world shows =
+      subst (λ cs. (answers : List Answer) × AnswerAll world cs answers × ShowsProject new (world_of world cs)) (sym (none_taken count))
+      ([], tt, seen_shows contents old new out_old out_new view (Some NotAProject) sees clean world shows)
+  action_done (Refused why) count kept going clean world shows =
+      subst (λ cs. (answers : List Answer) × AnswerAll world cs answers × ShowsProject new (world_of world cs)) (sym (none_taken count))
+      ([], tt, subst (λ p. ShowsProject p world) (sym kept.0) shows)
+
+  action_over : (action : Action) (count : ℕ) → StopsAction contents old new out_old out_new action count → IsSessionOpen old → HasCleanDisk (state_of new) → (world : World) → IsOver old world
+      → IsOver new (world_of world (take count (commands_of_action action)))
+  action_over (Commands commands) count runs going clean world over =
+      let driven = runs.answers.3 going clean world (over_shows old world over) in
+      record { is_project = driven.shows.is_project; version = driven.shows.version; goes = (runs.answers.2 going clean world over).goes (action_goes (Commands commands) count runs going) }
+  action_over (Look view) count (sees, long) going clean world over =
+      subst (λ cs. IsOver new (world_of world cs)) (sym (none_taken count)) (seen_over contents old new out_old out_new view (Some NotAProject) sees clean world over)
+  action_over (Refused why) count kept going clean world over =
+      subst (λ cs. IsOver new (world_of world cs)) (sym (none_taken count)) (subst (λ p. IsOver p world) (sym kept.0) over)
+
+  -- it ended with that fault
+  action_performs : (action : Action) (count : ℕ) → StopsAction contents old new out_old out_new action count → Performs contents old new out_old out_new action (Some NotAProject)
+  action_performs (Commands commands) count runs = (stopped_at count, runs, refl)
+  action_performs (Look view) count (sees, long) = sees
+  action_performs (Refused why) count kept = kept
+
+module _ {S W : Type 0} {store : Ghosts S} (contents : W → Option (List ℕ)) (old new : Project S store) (out_old out_new : W) (mode : Mode) (action : Action) (count : ℕ) (end : Option Fault)
+    (stops : Stops contents old new out_old out_new mode action count end) where
+  stop_goes : IsSessionOpen old → IsSessionOpen new
+  stop_goes = action_goes contents old new out_old stops.out_done action count stops.does
 
   pub stop_done : IsSessionOpen old → HasCleanDisk (state_of new) → (world : World) → ShowsProject old world
       → (answers : List Answer) × AnswerAll world (take count (commands_of_action action)) answers × ShowsProject new (world_of world (take count (commands_of_action action)))
-  stop_done going clean world shows =
-      let driven = stops.runs.answers.3 going clean world shows in
-      (stops.runs.answers.0, driven.answered, driven.shows)
+  stop_done = action_done contents old new out_old stops.out_done action count stops.does
 
   pub stop_over : IsSessionOpen old → HasCleanDisk (state_of new) → (world : World) → IsOver old world → IsOver new (world_of world (take count (commands_of_action action)))
-  stop_over going clean world over =
-      let (answers, answered, behind) = stop_done going clean world (over_shows old world over) in
-      record { is_project = behind.is_project; version = behind.version; goes = (stops.runs.answers.2 going clean world over).goes (stop_goes going) }
+  stop_over = action_over contents old new out_old stops.out_done action count stops.does
 
 -- ---- a step as it ran
 
@@ -387,7 +425,7 @@ module _ {S W : Type 0} {store : Ghosts S} (contents : W → Option (List ℕ)) 
   as_performs None Repeated action end does = (out_new, end, does)
   as_performs None Tried action end tries = (tries.out_done, tries.told, tries.does)
   as_performs (Some count) mode action end stops =
-      (stops.out_done, Some NotAProject, subst (λ a. Performs contents old new out_old stops.out_done a (Some NotAProject)) (sym stops.asks) (stopped_at count, stops.runs, refl))
+      (stops.out_done, Some NotAProject, action_performs contents old new out_old stops.out_done action count stops.does)
 
   pub ran_performs : (ran : RanStep) (end : Option Fault) → PerformsRan contents ran old new out_old out_new end → (out_done : W) × (told : Option Fault) × Performs contents old new out_old out_done ran.step.action told
   ran_performs ran end does = as_performs ran.stop ran.step.mode ran.step.action end does
@@ -420,28 +458,27 @@ module _ {S W : Type 0} {store : Ghosts S} (contents : W → Option (List ℕ)) 
 module _ {S W : Type 0} {store : Ghosts S} (contents : W → Option (List ℕ)) (old new : Project S store) (out_old out_done out_new : W) (action : Action) (told : Option Fault) (does : Performs contents old new out_old out_done action told) where
   -- an action that was not refused
   pub tries_done : told ≡ None → Tries contents old new out_old out_done action None
-  tries_done none = record { told = told; out_done = out_done; does = does; ends = subst (λ t. EndsTried contents out_done out_done action t None) (sym none) (refl, refl) }
+  tries_done none = record { told = told; out_done = out_done; does = does; ends = subst (λ t. EndsTried contents out_done out_done t None) (sym none) (refl, refl) }
 
   -- one that was, and whose line went out or not
   pub tries_refused : (fault : Fault) (end : Option Fault) → told ≡ Some fault → is_refusal fault ≡ true → PassesOver contents out_done out_new fault end
       → Tries contents old new out_old out_new action end
-  tries_refused fault end is refused passed = record { told = told; out_done = out_done; does = does; ends = subst (λ t. EndsTried contents out_done out_new action t end) (sym is) (inl (refused, passed)) }
+  tries_refused fault end is refused passed = record { told = told; out_done = out_done; does = does; ends = subst (λ t. EndsTried contents out_done out_new t end) (sym is) (inl (refused, passed)) }
 
   -- one that another fault ended
-  pub tries_ended : (fault : Fault) → told ≡ Some fault → is_refusal fault ≡ false → (AreCommands action → fault ≢ NotAProject) → Tries contents old new out_old out_done action (Some fault)
-  tries_ended fault is other no_stop = record { told = told; out_done = out_done; does = does; ends = subst (λ t. EndsTried contents out_done out_done action t (Some fault)) (sym is) (inr (other, no_stop, refl, refl)) }
+  pub tries_ended : (fault : Fault) → told ≡ Some fault → is_refusal fault ≡ false → fault ≢ NotAProject → Tries contents old new out_old out_done action (Some fault)
+  tries_ended fault is other no_stop = record { told = told; out_done = out_done; does = does; ends = subst (λ t. EndsTried contents out_done out_done t (Some fault)) (sym is) (inr (other, no_stop, refl, refl)) }
 
-module _ {S W : Type 0} {store : Ghosts S} (contents : W → Option (List ℕ)) (old new : Project S store) (out_old out_done out_new : W) where
-  -- one of whose commands the store refused
-  pub commands_stopped : (commands : List Command) (end : Option Fault) → Performs contents old new out_old out_done (Commands commands) (Some NotAProject) → PassesOver contents out_done out_new NotAProject end
-      → Attempts contents old new out_old out_new (Commands commands) end
-  commands_stopped commands end (run, runs, is) passed = (
-    Some run.acknowledged,
-    record {
-      tried = refl;
-      asks = refl;
-      out_done = out_done;
-      runs = subst (λ e. RunsList contents old new out_old out_done commands (record { acknowledged = run.acknowledged; end = e })) is runs;
-      passed = passed;
-    },
-  )
+module _ {S W : Type 0} {store : Ghosts S} (contents : W → Option (List ℕ)) (old new : Project S store) (out_old out_done : W) where
+  -- where the store stopped it
+  stopped_somewhere : (action : Action) → Performs contents old new out_old out_done action (Some NotAProject) → (count : ℕ) × StopsAction contents old new out_old out_done action count
+  stopped_somewhere (Commands commands) (run, runs, is) =
+      (run.acknowledged, subst (λ e. RunsList contents old new out_old out_done commands (record { acknowledged = run.acknowledged; end = e })) is runs)
+  stopped_somewhere (Look view) sees = (growth (contents out_old) (contents out_done), (sees, refl))
+  stopped_somewhere (Refused why) kept = (0, kept)
+
+  pub action_stopped : (out_new : W) (action : Action) (end : Option Fault) → Performs contents old new out_old out_done action (Some NotAProject) → PassesOver contents out_done out_new NotAProject end
+      → Attempts contents old new out_old out_new action end
+  action_stopped out_new action end does passed =
+      let (count, stops) = stopped_somewhere action does in
+      (Some count, record { tried = refl; out_done = out_done; does = stops; passed = passed })

@@ -1,6 +1,7 @@
 -- Whether a file reads as its import or its script would read it.
 use Rattle.std.specs.Prelude.{◌≡◌, ◌⊎◌, ℕ, ◌==◌, ◌-◌, List, [], ◌∷◌, ◌++◌, bytes_eq, codes, if◌then◌else◌, IfErr, Option, Some, None, Result, Ok, Err}
 use Rattle.std.specs.Fmt.{decimal}
+pub use Rattle.std.specs.Fmt.{digits}
 use Rattle.wu_core.specs.Limits.{highest_class, highest_quorum, longest_delay, longest_input, longest_name, longest_output, most_credit, most_instances}
 use Rattle.wu_core.specs.declared.fault.Fault.{Fault}
 use Rattle.wu_core.specs.declared.fault.Fault.TheVariants.{BadFile, BadTemplate, Memory, Output}

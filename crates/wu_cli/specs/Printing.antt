@@ -24,7 +24,6 @@ use Rattle.wu_arguments.specs.declared.script.Mode.TheVariants.{Once, Repeated, 
 use Rattle.wu_arguments.specs.declared.step.LineFault.{LineFault}
 use Rattle.wu_arguments.specs.declared.step.Step.{Step}
 use Rattle.wu_cli.specs.Endings.{fault_line}
-use Rattle.wu_cli.specs.Performing.{commands_of_action}
 use Rattle.wu_cli.specs.Repeating.{RanAs, unrolled, world_behind}
 use Rattle.wu_cli.specs.Trying.{accepted, refusal_line, refusal_of, RanStep}
 use Rattle.wu_cli.specs.Working.{BeginsFrom, line_outcome, script_outcome, WorkRanAs}
@@ -68,10 +67,16 @@ printed_by Once world action = printed_action world action
 printed_by Repeated world action = printed_action world action
 printed_by Tried world action = printed_accepted world action ++ refusal_line (refusal_of world action)
 
--- Likewise of one that the store may have stopped: the answers to the commands before the refused one, and its line.
+-- What an action printed until the store stopped it: the answers to so many commands, or so many bytes of its view.
+abbrev pub printed_until : ℕ → World → Action → List ℕ
+printed_until count world (Commands commands) = printed_replies world (take count commands)
+printed_until count world (Look view) = take count (view_text world view)
+printed_until count world (Refused fault) = []
+
+-- Likewise of one that the store may have stopped: behind what it printed the line of that refusal.
 abbrev pub printed_as : Option ℕ → Mode → World → Action → List ℕ
 printed_as None mode world action = printed_by mode world action
-printed_as (Some count) mode world action = printed_replies world (take count (commands_of_action action)) ++ fault_line NotAProject
+printed_as (Some count) mode world action = printed_until count world action ++ fault_line NotAProject
 
 -- What steps print, each over the world that the steps before it left.
 abbrev pub printed_steps : World → List RanStep → List ℕ

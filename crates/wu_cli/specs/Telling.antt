@@ -23,7 +23,7 @@ use Rattle.wu_arguments.specs.declared.step.LineFault.{LineFault}
 use Rattle.wu_arguments.specs.declared.step.Step.{Step}
 use Rattle.wu_cli.specs.Endings.{fault_line}
 use Rattle.wu_cli.specs.Performing.{commands_of_action}
-use Rattle.wu_cli.specs.Printing.{printed_accepted, printed_replies, printed_steps}
+use Rattle.wu_cli.specs.Printing.{printed_accepted, printed_steps, printed_until}
 use Rattle.wu_cli.specs.Repeating.{commands_of_steps, RanAs, unrolled, world_behind_steps}
 use Rattle.wu_cli.specs.Trying.{accepted, refusal_line, refusal_of, RanStep}
 use Rattle.wu_cli.specs.Scripting.{so_far}
@@ -58,7 +58,7 @@ TellsBy Tried before after world action count fault =
 abbrev pub TellsAs : Option ℕ → Mode → Option (List ℕ) → Option (List ℕ) → World → Action → ℕ → Fault → Type 0
 TellsAs None mode before after world action count fault = TellsBy mode before after world action count fault
 TellsAs (Some stopped) mode before after world action count fault =
-    CutsRefusal before after (take stopped (commands_of_action action)) (printed_replies world (take stopped (commands_of_action action))) (fault_line NotAProject) count fault
+    CutsRefusal before after (take stopped (commands_of_action action)) (printed_until stopped world action) (fault_line NotAProject) count fault
 
 -- So many commands of the steps were done. Each step before the one that failed printed all its text. That one printed
 -- what reports its done commands.

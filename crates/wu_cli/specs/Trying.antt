@@ -1,5 +1,5 @@
 -- A tried line: the commands that the machine accepts of it, and what becomes of a refusal by the machine or the store.
-use Rattle.std.specs.Prelude.{◌≡◌, ◌≢◌, ◌⊎◌, ℕ, Bool, true, false, List, [], ◌∷◌, option_map, Option, Some, None, Result, Ok, Err}
+use Rattle.std.specs.Prelude.{◌≡◌, ◌≢◌, ◌⊎◌, ◌-◌, ℕ, Bool, true, false, List, [], ◌∷◌, length, option_map, Option, Some, None, Result, Ok, Err}
 use Rattle.std.specs.Io.KnownBytes.{Appends}
 use Rattle.sqlite_trees.specs.declared.store.Store.{Ghosts}
 use Rattle.wu_core.specs.World.{World}
@@ -13,6 +13,7 @@ use Rattle.wu_passes.specs.Adopting.{older_than_present}
 use Rattle.wu_passes.specs.declared.project.Project.{Project}
 use Rattle.wu_drive.specs.Running.{RunsList}
 use Rattle.wu_drive.specs.declared.runs.Run.{Run}
+use Rattle.wu_report.specs.Seeing.{Sees}
 use Rattle.wu_report.specs.Writing.{AppendsFront}
 use Rattle.wu_arguments.specs.declared.action.Action.{Action}
 use Rattle.wu_arguments.specs.declared.action.Action.TheVariants.{Commands, Look, Refused}
@@ -20,7 +21,7 @@ use Rattle.wu_arguments.specs.declared.script.Mode.{Mode}
 use Rattle.wu_arguments.specs.declared.script.Mode.TheVariants.{Once, Repeated, Tried}
 use Rattle.wu_arguments.specs.declared.step.Step.{Step}
 use Rattle.wu_cli.specs.Endings.{fault_line}
-use Rattle.wu_cli.specs.Performing.{commands_of_action, Performs}
+use Rattle.wu_cli.specs.Performing.{as_result, Performs}
 
 -- Whether the machine may refuse a request with this fault: it is none of the store, of an ended session or of the
 -- output.
@@ -62,10 +63,6 @@ refusal_of world (Commands commands) = first_refusal world commands
 refusal_of world (Look view) = option_map fault.OldSchema (older_than_present world.version)
 refusal_of world (Refused fault) = Some fault
 
--- The action is a list of commands.
-abbrev pub AreCommands : Action → Type 0
-AreCommands action = action ≡ Commands (commands_of_action action)
-
 -- The line that goes out for a refusal.
 abbrev pub refusal_line : Option Fault → List ℕ
 refusal_line None = []
@@ -79,13 +76,12 @@ module _ {W : Type 0} (contents : W → Option (List ℕ)) where
   PassesOver out_old out_new refused None = Appends (contents out_old) (contents out_new) (fault_line refused)
   PassesOver out_old out_new refused (Some end) = (end ≡ fault.Output) × AppendsFront (contents out_old) (contents out_new) (fault_line refused)
 
-  -- An action ended so, and so its step did: a refusal is passed over. Any other fault ends the step, but F13 of a
-  -- command.
-  abbrev pub EndsTried : W → W → Action → Option Fault → Option Fault → Type 0
-  EndsTried out_old out_new action None end = (end ≡ None) × (out_new ≡ out_old)
-  EndsTried out_old out_new action (Some told) end =
+  -- An action ended so, and so its step did: a refusal is passed over, and any other fault but F13 ends the step.
+  abbrev pub EndsTried : W → W → Option Fault → Option Fault → Type 0
+  EndsTried out_old out_new None end = (end ≡ None) × (out_new ≡ out_old)
+  EndsTried out_old out_new (Some told) end =
       ((is_refusal told ≡ true) × PassesOver out_old out_new told end)
-      ⊎ ((is_refusal told ≡ false) × (AreCommands action → told ≢ fault.NotAProject) × (end ≡ Some told) × (out_new ≡ out_old))
+      ⊎ ((is_refusal told ≡ false) × (told ≢ fault.NotAProject) × (end ≡ Some told) × (out_new ≡ out_old))
 
 module _ {S W : Type 0} {store : Ghosts S} (contents : W → Option (List ℕ)) where
   -- The action is done, and its refusal is passed over.
@@ -93,7 +89,7 @@ module _ {S W : Type 0} {store : Ghosts S} (contents : W → Option (List ℕ)) 
     pub told : Option Fault
     pub out_done : W
     pub does : Performs contents old new out_old out_done action told
-    pub ends : EndsTried contents out_done out_new action told end
+    pub ends : EndsTried contents out_done out_new told end
 
   -- An action is done in this way, and this ended it.
   abbrev pub PerformsBy : Mode → Project S store → Project S store → W → W → Action → Option Fault → Type 0
@@ -103,7 +99,8 @@ module _ {S W : Type 0} {store : Ghosts S} (contents : W → Option (List ℕ)) 
 
 -- ---- stopped by the store
 
--- A step as it ran. The store stopped a tried one behind so many of its commands, where it refused the next one.
+-- A step as it ran. The store stopped a tried one behind so many of its commands, where it refused the next one, or
+-- behind so many bytes of its view.
 pub record RanStep : Type 0 where
   pub step : Step
   pub stop : Option ℕ
@@ -112,21 +109,32 @@ pub record RanStep : Type 0 where
 abbrev pub step_as : Step → Option ℕ → RanStep
 step_as step stop = record { step = step; stop = stop }
 
+-- By how many bytes the contents of a writer grew.
+abbrev pub growth : Option (List ℕ) → Option (List ℕ) → ℕ
+growth (Some before) (Some after) = length after - length before
+growth _ _ = 0
+
 -- The run of a list of which the store refused the command after these many.
 abbrev pub stopped_at : ℕ → Run
 stopped_at count = record { acknowledged = count; end = Some fault.NotAProject }
 
 module _ {S W : Type 0} {store : Ghosts S} (contents : W → Option (List ℕ)) where
-  -- The store refused a command of a tried action. Those before it are done, and the line of the refusal goes out behind
-  -- their answers.
+  -- The store stopped an action: of commands, so many are done, and it refused the next one. Of a view, so many bytes
+  -- are out.
+  abbrev pub StopsAction : Project S store → Project S store → W → W → Action → ℕ → Type 0
+  StopsAction old new out_old out_new (Commands commands) count = RunsList contents old new out_old out_new commands (stopped_at count)
+  StopsAction old new out_old out_new (Look view) count =
+      Sees contents old new out_old out_new view (as_result (Some fault.NotAProject)) × (count ≡ growth (contents out_old) (contents out_new))
+  StopsAction old new out_old out_new (Refused why) count = Performs contents old new out_old out_new (Refused why) (Some fault.NotAProject)
+
+  -- The store stopped a tried action, and the line of its refusal goes out behind what the action printed.
   pub record Stops (old new : Project S store) (out_old out_new : W) (mode : Mode) (action : Action) (count : ℕ) (end : Option Fault) : Type 0 where
     pub tried : mode ≡ Tried
-    pub asks : AreCommands action
     pub out_done : W
-    pub runs : RunsList contents old new out_old out_done (commands_of_action action) (stopped_at count)
+    pub does : StopsAction old new out_old out_done action count
     pub passed : PassesOver contents out_done out_new fault.NotAProject end
 
-  -- An action is done in this way, and this ended it. The store did not stop it, or stopped it behind so many commands.
+  -- An action is done in this way, and this ended it. The store did not stop it, or stopped it there.
   abbrev pub PerformsAs : Option ℕ → Mode → Project S store → Project S store → W → W → Action → Option Fault → Type 0
   PerformsAs None mode old new out_old out_new action end = PerformsBy contents mode old new out_old out_new action end
   PerformsAs (Some count) mode old new out_old out_new action end = Stops old new out_old out_new mode action count end

@@ -65,6 +65,7 @@ fn kind_named(word: &str) -> Option<LintKind>
 }
 
 /// Returns the header that such a file has.
+#[tactic(auto, unfolding(crate::specs::Linting::joined))]
 fn header_wanted(kind: FileKind) -> &'static str
     ensures { result.now ≡ header_wanted kind }
 {
@@ -78,6 +79,7 @@ fn header_wanted(kind: FileKind) -> &'static str
 }
 
 /// Returns what is wanted in place of what a cause refuses.
+#[tactic(auto, unfolding(crate::specs::Linting::digits))]
 fn wanted(kind: FileKind, cause: FileCause) -> &'static str
     ensures { result.now ≡ wanted kind cause }
 {
@@ -98,6 +100,7 @@ fn wanted(kind: FileKind, cause: FileCause) -> &'static str
 }
 
 /// Returns what is wanted of a template that is refused with this key.
+#[tactic(auto, unfolding(crate::specs::Linting::digits))]
 fn wanted_of_key(key: TemplateKey) -> &'static str
     ensures { result.now ≡ wanted_of_key key }
 {

@@ -102,7 +102,7 @@ fn pass_over<W: Write>(out: &mut W, refused: Fault) -> Option<Fault>
 }
 
 /// Does an action as `act`, and passes over its refusal: the line of the refusal goes out. Also where the store refused
-/// one of its commands. Returns any other fault.
+/// one of its commands or stopped its view. Returns any other fault.
 fn attempt<S: Alter, W: Write>(
     alloc: Global,
     project: &mut Project<S>,
@@ -115,10 +115,7 @@ fn attempt<S: Alter, W: Write>(
     let (end, _) = act(alloc, project, action, out);
     match end {
         Some(fault) => match fault {
-            Fault::NotAProject => match action {
-                Action::Commands(_) => pass_over(out, fault),
-                _ => Some(fault),
-            },
+            Fault::NotAProject => pass_over(out, fault),
             _ => {
                 if is_refusal(fault) {
                     pass_over(out, fault)
@@ -158,8 +155,8 @@ fn repeat<S: Alter, W: Write>(
     None
 }
 
-/// Does what a step of a script asks for, in its way. Returns the fault that ended it.
-fn perform_in_its_way<S: Alter, W: Write>(
+/// Does what a step of a script asks for: once, repeated or tried. Returns the fault that ended it.
+fn perform_by_mode<S: Alter, W: Write>(
     alloc: Global,
     project: &mut Project<S>,
     step: &Step,
@@ -191,7 +188,7 @@ pub fn perform_step<S: Alter, W: Write>(
     // The status is 0 without a fault, and else that of the fault.
     ensures status { result.0 ≡ status_of_line result.1 }
 {
-    match perform_in_its_way(alloc, project, step, out) {
+    match perform_by_mode(alloc, project, step, out) {
         Some(fault) => {
             let number = step.number;
             (fault_status(fault), Some(LineFault { number, fault }))

@@ -298,13 +298,20 @@ fn text_of_line<'a>(first: &str, second: &str, third: &str, fourth: &str) -> Opt
 }
 
 /// Returns the explanation of a topic, by its first two words in lower case and the next two, each empty where there is
-/// none; of a line that a view prints, that of its first state or column. Returns `None` if there is no such topic.
+/// none; of a line that a view prints, by a state or a column that it has. Returns `None` if there is no such topic.
 fn text_of_line_of_view<'a>(first: &str, second: &str, third: &str, fourth: &str) -> Option<&'a str>
     // A text that is returned is not empty.
     ensures { IfSome result (λ text. 1 ≤ length text.now) }
 {
     if let Some(text) = text_of_words(first, second, !third.is_empty() || !fourth.is_empty()) {
         return Some(text);
+    }
+    // one view alone prints a class second, and one a mask third
+    if second.starts_with("class=") {
+        return view_text("classes");
+    }
+    if third.starts_with("mask=") {
+        return view_text("archive");
     }
     match text_of_cell(second) {
         Some(text) => Some(text),
@@ -328,6 +335,7 @@ fn text_of_lowered<'a>(first: &str, second: &str, third: &str, fourth: &str) -> 
         ("=", "ready") => subject_text("scripts"),
         ("cannot", _) => text_of_trouble(second),
         ("unknown", word) if !word.is_empty() => text_of_unknown(word),
+        (_, "skipped:") => subject_text("skips"),
         ("host", _) if third == "errors" => subject_text("waits"),
         ("ok", path) if !path.is_empty() && third.is_empty() => subject_text("lint"),
         _ => text_of_line_of_view(first, second, third, fourth),
@@ -363,11 +371,11 @@ fn first_word(text: &str) -> (&str, &str) {
 }
 
 /// Returns the explanation of a topic: its words, in any case, each empty where there is none. Without a word it is the
-/// list of all topics. The first word may hold all of them, as where they are quoted. A fault may go on with further
-/// words, as it is printed, and its number may be left out. It may also stand after `=` and a status, as a session prints
-/// it, or after `line` and `NUMBER:`, as it is printed of a script. Why a row was skipped may stand after `row` and
-/// `NUMBER:`. What begins with `cannot` or `unknown` is explained by the word after it, and what answers, a check, a
-/// backup or outputs report by its first word. Returns `None` if there is no such topic.
+/// list of all topics. The first word may hold all of them, after blanks, as where they are quoted. A fault may go on
+/// with further words, as it is printed, and its number may be left out. It may also stand after `=` and a status, as a
+/// session prints it, or after `line` and `NUMBER:`, as it is printed of a script. Why a row was skipped may stand after
+/// `row` and `NUMBER:`. What begins with `cannot` or `unknown` is explained by the word after it, and what answers, a
+/// check, a backup or outputs report by its first word. Returns `None` if there is no such topic.
 pub fn explanation<'a>(first: &str, second: &str, third: &str, fourth: &str) -> Option<&'a str>
     // A text that is returned is not empty.
     ensures { IfSome result (λ text. 1 ≤ length text.now) }
@@ -375,7 +383,7 @@ pub fn explanation<'a>(first: &str, second: &str, third: &str, fourth: &str) -> 
     if !second.is_empty() {
         return text_of_topic(first, second, third, fourth);
     }
-    let (first, rest) = first_word(first);
+    let (first, rest) = first_word(first.trim_start());
     let (second, rest) = first_word(rest);
     let (third, rest) = first_word(rest);
     let (fourth, _) = first_word(rest);

@@ -60,6 +60,7 @@ does what is still to do, a cancel that was done is refused with F10 or F9.
             "Status 5
 The output could not be written (F17): a command whose text was cut was done, and
 those after it, in a cycle or a script, were not run. A view may be shown again.
+A reader that stops early, as in show .. | head -1, ends a long view so.
 ",
         ),
         _ => None,

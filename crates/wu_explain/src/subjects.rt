@@ -193,8 +193,8 @@ After the word repeat a pass is run until it answers less than its limit, each t
 as a command of its own, and at most a million times:
   repeat transition --now 2026-03-01T12:00:00Z --limit 1000
 After the word try a command, a cycle or a view is run. Where it is refused with F1
-to F11, or a command with F13, that fault is printed in place of its answer, and the
-script goes on:
+to F11 or F13, that fault is printed in place of its answer, of a view after the
+lines before it, and the script goes on:
   try cancel --workunit job_7
 The last lines may ask for what is made of a copy of the project:
   backup --to FILE
@@ -239,7 +239,8 @@ a new project gives, no command can make one: rename that, or take another file.
 the name is project, it is a view, or a table with somebody's trigger: drop that.
 A table that has somebody's trigger is reported as missing, or its file as no
 database that this program reads. So is a file with a row that refers to none, with a
-virtual table, or with somebody's index that has a WHERE. sqlite3 finds the first two by
+virtual table, or with somebody's index that has a WHERE or is over an expression.
+sqlite3 finds the first two by
   SELECT name, tbl_name FROM sqlite_schema WHERE type = 'trigger'
   PRAGMA foreign_key_check
 ",

@@ -5,7 +5,7 @@ ghost use Rattle.wu_core.specs.declared.fault.Fault.TheVariants.{Memory};
 ghost use Rattle.wu_process.specs.Opening.{IsBar};
 
 use crate::files::HostFiles;
-use crate::header::SHORTEST_LOG;
+use crate::header::{SHORTEST_LOG, SIZED, has_other_pages};
 use std::alloc::AllocError;
 use std::fs;
 use std::io::ErrorKind;
@@ -56,6 +56,38 @@ pub fn has_content_beside(rt: &HostRuntime, path: &str) -> Result<bool, AllocErr
 pub fn has_linked_log(rt: &HostRuntime, path: &str) -> Result<bool, AllocError> {
     let log = format!(in rt.alloc(); "{path}-wal")?;
     Ok(fs::symlink_metadata(rt, log.as_str()).is_ok_and(|found| found.is_symlink()))
+}
+
+/// Returns the path of the log of the database at the path: a link's lies beside the file that it leads to. Out of memory
+/// it is `None`.
+fn log_of(rt: &HostRuntime, path: &str) -> Option<String> {
+    match fs::canonicalize(rt, path) {
+        Ok(real) => format!(in rt.alloc(); "{}-wal", real.as_str()).ok(),
+        Err(_) => format!(in rt.alloc(); "{path}-wal").ok(),
+    }
+}
+
+/// Returns whether something lies in the place of the log of the database at the path, as far as that can be found out.
+pub fn may_have_log(rt: &HostRuntime, path: &str) -> bool {
+    match log_of(rt, path) {
+        Some(log) => match fs::symlink_metadata(rt, log.as_str()) {
+            Ok(_) => true,
+            Err(error) => error.kind() != ErrorKind::NotFound,
+        },
+        None => true,
+    }
+}
+
+/// Removes the log without a page that a refused opening made, if none was there before.
+pub fn take_log_back(rt: &HostRuntime, path: &str, had_log: bool) {
+    if had_log {
+        return;
+    }
+    if let Some(log) = log_of(rt, path) {
+        if len_at(rt, log.as_str()) < SHORTEST_LOG {
+            let _ = fs::remove_file(rt, log.as_str());
+        }
+    }
 }
 
 /// Returns whether what lies at the path itself is no file, as a folder, a pipe or a link.
@@ -111,8 +143,24 @@ pub fn is_foreign(rt: &HostRuntime, path: &str) -> Result<bool, Fault>
     }
 }
 
+/// Returns whether the log at a path holds a page, and its pages have another size than those of the database at the
+/// other path. The only fault is `Memory`.
+fn is_log_of_other_pages(rt: &HostRuntime, log: &str, path: &str) -> Result<bool, Fault>
+    // The only fault is `Memory`.
+    ensures { IfErr result (λ fault. fault ≡ Memory) }
+{
+    if len_at(rt, log) < SHORTEST_LOG || is_no_file(rt, path) {
+        return Ok(false);
+    }
+    let files = HostFiles::new(rt);
+    match (files.read(log, SIZED)?, files.read(path, SIZED)?) {
+        (Some(log), Some(db)) => Ok(has_other_pages(&log, &db)),
+        _ => Ok(false),
+    }
+}
+
 /// Returns whether what lies at the path of a database's log begins as no log does, or whether what lies there or at that
-/// of its journal is no file. The only fault is `Memory`.
+/// of its journal is no file, or whether the log has pages of another size than the database. The only fault is `Memory`.
 pub fn has_foreign_log(rt: &HostRuntime, path: &str) -> Result<bool, Fault>
     // The only fault is `Memory`.
     ensures { IfErr result (λ fault. fault ≡ Memory) }
@@ -121,12 +169,12 @@ pub fn has_foreign_log(rt: &HostRuntime, path: &str) -> Result<bool, Fault>
         return Ok(true);
     }
     let log = format!(in rt.alloc(); "{path}-wal")?;
-    match HostFiles::new(rt).read(log.as_str(), 0)? {
-        Some(bytes) => Ok(
-            bytes
-                .first()
-                .is_some_and(|first| *first != 0 && *first != LOG_BEGINS),
-        ),
+    let Some(bytes) = HostFiles::new(rt).read(log.as_str(), 0)? else {
+        return Ok(false);
+    };
+    match bytes.first() {
+        Some(&LOG_BEGINS) => is_log_of_other_pages(rt, log.as_str(), path),
+        Some(&first) => Ok(first != 0),
         None => Ok(false),
     }
 }

@@ -172,6 +172,15 @@ fn refuse_foreign(rt: &HostRuntime, path: &str) -> Result<(), Reason> {
     Ok(())
 }
 
+/// Returns why the database at the path must not be opened, as far as what lies there and beside it shows; `None` if that
+/// shows nothing.
+pub fn why_barred(rt: &HostRuntime, path: &str) -> Option<Reason> {
+    match fs::canonicalize(rt, path) {
+        Ok(real) => refuse_foreign(rt, real.as_str()).err(),
+        Err(error) => Some(why_not_found(rt, path, &error)),
+    }
+}
+
 /// Reads the bytes of the database at the path and of its log, as they are at one moment. A file that another program
 /// writes to meanwhile is in use. The log lies beside the file to which a link leads.
 fn read_database<'a>(rt: &HostRuntime, path: &'a str) -> Result<FileBytes<'a>, Reason>

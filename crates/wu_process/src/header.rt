@@ -2,6 +2,19 @@
 
 use wu_cli::Reason;
 
+/// The first byte of a database with a header.
+const BEGINS: u8 = b'S';
+
+/// Where the header has the size of a page in two bytes, and the number there that stands for the largest one.
+const PAGE_SIZE: usize = 16;
+
+const LARGEST: u16 = 1;
+
+const LARGEST_SIZE: u32 = 65_536;
+
+/// How many bytes have the size of a page, of a database and of a log.
+pub const SIZED: usize = PAGE_SIZE + 2;
+
 /// Where the header has the number of pages, and the number of those that are free.
 const PAGES: usize = 28;
 
@@ -39,6 +52,25 @@ fn number_at(bytes: &[u8], at: usize) -> Option<u32> {
     match bytes.get(at..at.saturating_add(4)) {
         Some([a, b, c, d]) => Some(u32::from_be_bytes([*a, *b, *c, *d])),
         _ => None,
+    }
+}
+
+/// Returns the size of a page of a database that begins so; `None` if it has no header yet.
+fn page_size_of(db: &[u8]) -> Option<u32> {
+    match (db.first(), db.get(PAGE_SIZE..SIZED)) {
+        (Some(&BEGINS), Some([high, low])) => match u16::from_be_bytes([*high, *low]) {
+            LARGEST => Some(LARGEST_SIZE),
+            size => Some(u32::from(size)),
+        },
+        _ => None,
+    }
+}
+
+/// Returns whether a log that begins so has pages of another size than a database that begins so.
+pub fn has_other_pages(log: &[u8], db: &[u8]) -> bool {
+    match (number_at(log, LOG_PAGE_SIZE), page_size_of(db)) {
+        (Some(of_log), Some(of_db)) => of_log != of_db,
+        _ => false,
     }
 }
 

@@ -1,6 +1,7 @@
-//! What a terminal shows beside the answers: that a database was made, that an import came before, and that a template
-//! lets no job succeed. No clause speaks of it.
+//! What a terminal shows beside the answers: that a database was made, or why it cannot be opened, that an import came
+//! before, and that a template lets no job succeed. No clause speaks of it.
 
+use crate::copy::why_barred;
 use crate::database::LeftDatabase;
 use crate::expected::{Expected, expected_of};
 use crate::files::HostFiles;
@@ -10,6 +11,7 @@ use std::fs;
 use std::io::{self, ErrorKind, Write};
 use std::time::SystemTime;
 use wu_arguments::{Asking, Order, ReadFile, read_words};
+use wu_cli::Trouble;
 use wu_feed::{LONGEST_TEMPLATE, read_template};
 
 /// The file of a database before the words are done.
@@ -44,6 +46,31 @@ fn look_at(rt: &HostRuntime, path: &str) -> Before {
         Ok(found) => Before::Written(found.modified().ok()),
         Err(error) if error.kind() == ErrorKind::NotFound => Before::Absent,
         Err(_) => Before::Written(None),
+    }
+}
+
+/// Returns whether a status says that no database could be opened, where this is left of one.
+fn is_unopened<D: Disk>(status: u8, left: &Option<LeftDatabase<D>>) -> bool {
+    match left {
+        None | Some(LeftDatabase::Unopened(_, _)) => status == Trouble::Unopened.status(),
+        Some(_) => false,
+    }
+}
+
+/// How a check begins the line that says why a database cannot be opened.
+const UNOPENED: &str = "cannot open the database: ";
+
+/// Shows why the database at the path cannot be opened, or that a check names the cause.
+fn tell_why<E: Write>(rt: &HostRuntime, path: &str, err: &mut E) {
+    match why_barred(rt, path) {
+        Some(reason) => {
+            let line = reason.line();
+            let why = line.strip_prefix(UNOPENED).unwrap_or(line);
+            let _ = err.write_all(why.as_bytes());
+        }
+        None => {
+            let _ = writeln!(err, "lintelthyme check --db {path} names the cause");
+        }
     }
 }
 
@@ -129,6 +156,9 @@ impl Hints {
         if let Some(path) = database_of(&self.order) {
             if self.was_made(rt, path) {
                 let _ = writeln!(err, "made {path}");
+            }
+            if is_unopened(status, left) {
+                tell_why(rt, path, err);
             }
         }
         let is_done = status == 0 && matches!(left, Some(LeftDatabase::Closed(_)));

@@ -7,6 +7,7 @@ ghost use Rattle.sqlite.specs.Opening.{is_open_error};
 ghost use Rattle.wu_cli.specs.LogNames.{names_log};
 ghost use Rattle.wu_process.specs.Opening.{in_memory, IsEarly, IsOpenedAt, IsUnopened};
 
+use crate::beside::{may_have_log, take_log_back};
 use crate::check::options;
 use sqlite::{Connection, Error, ErrorCode, FileFrom, FileStore, Files, Leftover, Start};
 use sqlite_std_file::OpenError;
@@ -82,7 +83,7 @@ fn open_pair<S: Start>(rt: &HostRuntime, path: &str, start: S) -> Result<Files<F
 }
 
 /// Opens the database at a path, and keeps so many of its pages in memory. A missing file is made. An error comes with
-/// what is left of the files, once they were opened.
+/// what is left of the files, once they were opened; a log that was made is taken back then.
 ///
 /// It is `Connection::open_from`, which always keeps 2,000 pages.
 pub fn open_at<S: Start>(rt: &HostRuntime, path: &str, start: S, pages: usize) -> Opened<S>
@@ -91,6 +92,7 @@ pub fn open_at<S: Start>(rt: &HostRuntime, path: &str, start: S, pages: usize) -
     // Or it is not, for this error, which leaves this of the files.
     ensures unopened { IfErr result (λ why. IsUnopened path.now why.0 why.1) }
 {
+    let had_log = may_have_log(rt, path);
     let files = match open_pair(rt, path, start) {
         Ok(files) => files,
         Err(error) => return Err((error, None)),
@@ -99,6 +101,9 @@ pub fn open_at<S: Start>(rt: &HostRuntime, path: &str, start: S, pages: usize) -
     options.cache_pages = pages;
     match Connection::open_files_with(rt.alloc(), files, options, false) {
         Ok(conn) => Ok(conn),
-        Err((error, left)) => Err((error, Some(left))),
+        Err((error, left)) => {
+            take_log_back(rt, path, had_log);
+            Err((error, Some(left)))
+        }
     }
 }

@@ -20,9 +20,6 @@ const MOST_SHOWN: usize = 40;
 /// After how many rows of an answer that goes to a file their number is shown anew.
 const ROWS_BETWEEN: u64 = 10_000;
 
-/// What stays on a terminal where rows were skipped.
-const SKIPPED: &[u8] = b"rows were skipped: lintelthyme explain skips\n";
-
 /// Returns how many rows end in these bytes.
 fn rows_ended(bytes: &[u8]) -> u64 {
     let mut rows: u64 = 0;
@@ -32,6 +29,13 @@ fn rows_ended(bytes: &[u8]) -> u64 {
         }
     }
     rows
+}
+
+/// Returns the number before the last word, if that is `skipped`.
+fn skipped_in(line: &[u8]) -> Option<u64> {
+    let front = std::str::from_utf8(line).ok()?.strip_suffix(" skipped")?;
+    let (_rest, number) = front.rsplit_once(' ')?;
+    number.parse::<u64>().ok()
 }
 
 /// The first line of an answer.
@@ -74,11 +78,11 @@ impl FirstLine {
         }
     }
 
-    /// Returns whether the line reports that rows were skipped, as far as all of it can be shown.
-    fn tells_skipped(&self) -> bool {
+    /// Returns how many rows the line reports as skipped, as far as all of it can be shown.
+    fn skipped(&self) -> u64 {
         match self.shown() {
-            Some(line) => line.ends_with(b" skipped") && !line.ends_with(b" 0 skipped"),
-            None => false,
+            Some(line) => skipped_in(line).unwrap_or(0),
+            None => 0,
         }
     }
 }
@@ -99,7 +103,8 @@ pub struct Signs<T: Drop> {
     /// How many rows of the answer have gone out, where the answers go to a file.
     rows: u64,
     is_shown: bool,
-    has_skipped: bool,
+    /// How many rows the answers reported as skipped.
+    skipped: u64,
 }
 
 impl<T: Write + Drop> Signs<T> {
@@ -123,7 +128,7 @@ impl<T: Write + Drop> Signs<T> {
             answer: FirstLine::new(),
             rows: 0,
             is_shown: false,
-            has_skipped: false,
+            skipped: 0,
         }
     }
 
@@ -240,11 +245,12 @@ impl<T: Write + Drop> Signs<T> {
     /// Wipes what is shown. Where rows were skipped, a line stays that says where to read on.
     fn finish(&mut self) {
         self.wipe();
-        if !self.has_skipped {
+        if self.skipped == 0 {
             return;
         }
+        let skipped = self.skipped;
         if let Some(terminal) = &mut self.terminal {
-            let _ = terminal.write_all(SKIPPED);
+            let _ = writeln!(terminal, "{skipped} skipped: see explain skips");
         }
     }
 
@@ -252,9 +258,7 @@ impl<T: Write + Drop> Signs<T> {
     fn count(&mut self) {
         self.answers = self.answers.saturating_add(1);
         self.tell();
-        if self.answer.tells_skipped() {
-            self.has_skipped = true;
-        }
+        self.skipped = self.skipped.saturating_add(self.answer.skipped());
         self.answer = FirstLine::new();
         self.rows = 0;
     }

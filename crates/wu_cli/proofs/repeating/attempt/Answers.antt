@@ -1,28 +1,17 @@
 use Rattle.std.proofs.Common.{◌∙◌, Some, None, ap, subst, sym}
-use Rattle.wu_core.specs.declared.fault.Fault.TheVariants.{NotAProject}
 use Rattle.wu_cli.specs.Performing.{Performs}
-use Rattle.wu_cli.specs.Trying.{Attempts, is_refusal, PassesOver}
-use Rattle.wu_cli.proofs.TryLemmas.{commands_stopped, tries_done, tries_ended, tries_refused}
+use Rattle.wu_cli.specs.Trying.{PassesOver}
+use Rattle.wu_cli.proofs.TryLemmas.{action_stopped, tries_done, tries_ended, tries_refused}
 use Rattle.wu_cli.proofs.repeating.attempt.Goals as goal
 
-pub returns-in-Commands : goal.returns-in-Commands
-returns-in-Commands g c =
+pub returns-in-NotAProject : goal.returns-in-NotAProject
+returns-in-NotAProject g c =
     let act = c.act-end in
     let passed = c.pass_over in
     let told = c.in-Some.is ∙ ap (λ f. Some f) c.in-NotAProject.is in
-    let does = subst (λ a. Performs g.W.Write.contents c.args.project.now act.new.project c.args.out.now act.new.out a (Some NotAProject)) c.in-Commands.is
-    (subst (λ end. Performs g.W.Write.contents c.args.project.now act.new.project c.args.out.now act.new.out c.args.action.now end) told act.ensures.does) in
-    subst (λ a. Attempts g.W.Write.contents c.args.project.now act.new.project c.args.out.now passed.new.out a passed.result) (sym c.in-Commands.is)
-    (commands_stopped g.W.Write.contents c.args.project.now act.new.project c.args.out.now act.new.out passed.new.out c.in-Commands.field-0 passed.result does
-    (subst (λ f. PassesOver g.W.Write.contents act.new.out passed.new.out f passed.result) c.in-NotAProject.is passed.ensures))
-
-pub returns-in_default-action : goal.returns-in_default-action
-returns-in_default-action g c =
-    let act = c.act-end in (
-      None,
-      tries_ended g.W.Write.contents c.args.project.now act.new.project c.args.out.now act.new.out act.new.out c.args.action.now act.result.0 act.ensures.does c.in-Some.fault
-          c.in-Some.is (ap is_refusal c.in-NotAProject.is) (λ commands. absurd (c.in_default-action.not-Commands _ commands)),
-    )
+    action_stopped g.W.Write.contents c.args.project.now act.new.project c.args.out.now act.new.out passed.new.out c.args.action.now passed.result
+    (subst (λ end. Performs g.W.Write.contents c.args.project.now act.new.project c.args.out.now act.new.out c.args.action.now end) told act.ensures.does)
+    (subst (λ f. PassesOver g.W.Write.contents act.new.out passed.new.out f passed.result) c.in-NotAProject.is passed.ensures)
 
 pub returns-then-is_refusal : goal.returns-then-is_refusal
 returns-then-is_refusal g c =
@@ -38,7 +27,7 @@ returns-else-is_refusal g c =
     let act = c.act-end in (
       None,
       tries_ended g.W.Write.contents c.args.project.now act.new.project c.args.out.now act.new.out act.new.out c.args.action.now act.result.0 act.ensures.does c.in-Some.fault
-          c.in-Some.is (sym c.is_refusal.ensures ∙ c.if-is_refusal.false) (λ commands same. c.in_default.not-NotAProject same),
+          c.in-Some.is (sym c.is_refusal.ensures ∙ c.if-is_refusal.false) c.in_default.not-NotAProject,
     )
 
 pub returns-in-None : goal.returns-in-None

@@ -3,7 +3,7 @@ use Rattle.wu_cli.specs.Repeating.{most_rounds}
 use Rattle.wu_cli.specs.Scripting.{line_fault, PerformsStep}
 use Rattle.wu_cli.specs.Trying.{PerformsAs, PerformsBy, step_as}
 use Rattle.wu_cli.proofs.RepeatLemmas.{may_stop, step_once}
-use Rattle.wu_cli.proofs.repeating.perform_in_its_way.Goals as goal
+use Rattle.wu_cli.proofs.repeating.perform_by_mode.Goals as goal
 
 pub returns-in-Once : goal.returns-in-Once
 returns-in-Once g c =
