@@ -5,7 +5,7 @@ ghost use Rattle.wu_core.specs.declared.fault.Fault.TheVariants.{Memory};
 ghost use Rattle.wu_process.specs.Opening.{IsBar};
 
 use crate::files::HostFiles;
-use crate::header::{SHORTEST_LOG, SIZED, has_other_pages};
+use crate::header::{LARGEST_SIZE, SHORTEST_LOG, drops_project, has_other_pages};
 use std::alloc::AllocError;
 use std::fs;
 use std::io::ErrorKind;
@@ -143,9 +143,13 @@ pub fn is_foreign(rt: &HostRuntime, path: &str) -> Result<bool, Fault>
     }
 }
 
-/// Returns whether the log at a path holds a page, and its pages have another size than those of the database at the
-/// other path. The only fault is `Memory`.
-fn is_log_of_other_pages(rt: &HostRuntime, log: &str, path: &str) -> Result<bool, Fault>
+/// How many bytes of a log are looked at.
+const LOOKED_AT: usize = 1_048_576;
+
+/// Returns whether the log at a path holds a page, and is that of another database than the one at the other path: its
+/// pages have another size, or it takes the table `project` out of the database. Only its first 1,048,577 bytes are looked
+/// at. The only fault is `Memory`.
+fn is_log_of_another(rt: &HostRuntime, log: &str, path: &str) -> Result<bool, Fault>
     // The only fault is `Memory`.
     ensures { IfErr result (λ fault. fault ≡ Memory) }
 {
@@ -153,14 +157,17 @@ fn is_log_of_other_pages(rt: &HostRuntime, log: &str, path: &str) -> Result<bool
         return Ok(false);
     }
     let files = HostFiles::new(rt);
-    match (files.read(log, SIZED)?, files.read(path, SIZED)?) {
-        (Some(log), Some(db)) => Ok(has_other_pages(&log, &db)),
+    match (
+        files.read(log, LOOKED_AT)?,
+        files.read(path, LARGEST_SIZE as usize)?,
+    ) {
+        (Some(log), Some(db)) => Ok(has_other_pages(&log, &db) || drops_project(&log, &db)),
         _ => Ok(false),
     }
 }
 
 /// Returns whether what lies at the path of a database's log begins as no log does, or whether what lies there or at that
-/// of its journal is no file, or whether the log has pages of another size than the database. The only fault is `Memory`.
+/// of its journal is no file, or whether the log is seen to be that of another database. The only fault is `Memory`.
 pub fn has_foreign_log(rt: &HostRuntime, path: &str) -> Result<bool, Fault>
     // The only fault is `Memory`.
     ensures { IfErr result (λ fault. fault ≡ Memory) }
@@ -173,7 +180,7 @@ pub fn has_foreign_log(rt: &HostRuntime, path: &str) -> Result<bool, Fault>
         return Ok(false);
     };
     match bytes.first() {
-        Some(&LOG_BEGINS) => is_log_of_other_pages(rt, log.as_str(), path),
+        Some(&LOG_BEGINS) => is_log_of_another(rt, log.as_str(), path),
         Some(&first) => Ok(first != 0),
         None => Ok(false),
     }

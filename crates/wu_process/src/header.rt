@@ -10,10 +10,15 @@ const PAGE_SIZE: usize = 16;
 
 const LARGEST: u16 = 1;
 
-const LARGEST_SIZE: u32 = 65_536;
+pub const LARGEST_SIZE: u32 = 65_536;
 
-/// How many bytes have the size of a page, of a database and of a log.
-pub const SIZED: usize = PAGE_SIZE + 2;
+/// Where the first page says of what kind it is, and the kind that holds all rows of the catalog itself.
+const KIND: usize = 100;
+
+const LEAF: u8 = 13;
+
+/// How the catalog's text begins that makes the table `project`.
+const MAKES_PROJECT: &[u8] = b"CREATE TABLE project (";
 
 /// Where the header has the number of pages, and the number of those that are free.
 const PAGES: usize = 28;
@@ -57,7 +62,7 @@ fn number_at(bytes: &[u8], at: usize) -> Option<u32> {
 
 /// Returns the size of a page of a database that begins so; `None` if it has no header yet.
 fn page_size_of(db: &[u8]) -> Option<u32> {
-    match (db.first(), db.get(PAGE_SIZE..SIZED)) {
+    match (db.first(), db.get(PAGE_SIZE..PAGE_SIZE + 2)) {
         (Some(&BEGINS), Some([high, low])) => match u16::from_be_bytes([*high, *low]) {
             LARGEST => Some(LARGEST_SIZE),
             size => Some(u32::from(size)),
@@ -106,6 +111,31 @@ pub fn refuse_other_kind(log: &[u8], db: &[u8]) -> Result<(), Reason> {
         return Err(Reason::OtherKind);
     }
     Ok(())
+}
+
+/// Returns whether a text in the page makes the table `project`.
+fn makes_project(page: &[u8]) -> bool {
+    page.windows(MAKES_PROJECT.len())
+        .any(|bytes| bytes == MAKES_PROJECT)
+}
+
+/// Returns whether the catalog has the table `project`, of which this is the first page; `None` if the page does not hold
+/// all of the catalog.
+fn lists_project(page: &[u8]) -> Option<bool> {
+    match page.get(KIND) {
+        Some(&LEAF) => Some(makes_project(page)),
+        _ => None,
+    }
+}
+
+/// Returns whether the log takes the table `project` out of a database that begins so, as no command does. Of a catalog
+/// of several pages it is not known.
+pub fn drops_project(log: &[u8], db: &[u8]) -> bool {
+    let Some(size) = page_size_of(db) else {
+        return false;
+    };
+    let page = db.get(..size as usize).unwrap_or(db);
+    lists_project(page) == Some(true) && lists_project(first_page(log, page)) == Some(false)
 }
 
 /// Returns whether at least a quarter of the pages of a database are free, as its first page says.
