@@ -212,8 +212,8 @@ pub fn line_of_all(alloc: Global, db: &str, words: Words, mode: Mode) -> Result<
     // The first word of the line says how it is done.
     requires { mode ≡ mode_of words }
     // A line is the command line of its words, with the program's name before and the database
-    // after. It is refused by `clap`, for what stands in no script, or by out of memory;
-    // and only a pass can be repeated.
+    // after. It is refused by `clap`, for an unknown view, a missing value, what stands in no
+    // script, or out of memory. Only a pass can be repeated, and no export tried.
     ensures { ReadsWordsOf db.now words mode result }
 {
     match mode {

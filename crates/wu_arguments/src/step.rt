@@ -170,8 +170,8 @@ pub fn script_of_lines<F: ReadFile>(
     files: &F,
 ) -> Result<Script, BadLine>
     // There is a step or an export for each line, in order, and no step after an export; else the
-    // first line that cannot be run is reported. Out of memory is reported with the number of a
-    // line that can be run, after lines that can.
+    // first line that cannot be run is reported. Out of memory may be reported of any line whose
+    // lines before can be run.
     ensures { GivesScript (F.ReadFile.gives files.now) db.now lines result }
 {
     let mut steps = Vec::new(alloc);

@@ -27,6 +27,7 @@ use Rattle.wu_check.specs.Queues.{HasMarks}
 use Rattle.wu_check.specs.Checking.{IsCounted, IsKnown, IsSoundProject}
 use Rattle.wu_check.specs.Examining.{IsLegible}
 use Rattle.wu_check.specs.Findings.{HasTakenName, IsJudged, IsRightWorld, IsSoundAs, LacksTables, Says, SaysSound, SaysUnsound, SaysWhy, Tells, TellsOfSound}
+use Rattle.wu_check.specs.declared.finding.Counts.{Counts}
 use Rattle.wu_check.specs.declared.finding.Finding.{Finding}
 use Rattle.wu_check.specs.declared.finding.Finding.TheVariants as finding
 use Rattle.wu_check.specs.declared.finding.Verdict.{Verdict}
@@ -132,16 +133,16 @@ module _ (any_order : SoundInAnyOrder) (db : Database) (p : IsSoundProject db) w
 -- ---- the parts of what a verdict says
 
 pub says_sound : (db : Database) (v : Verdict) → Says db v → SaysSound db v
-says_sound db (verdict.Sound version workunits results) says = says
+says_sound db (verdict.Sound counts) says = says
 says_sound db (verdict.Unsound found) says = tt
 
 pub says_why : (db : Database) (v : Verdict) → Says db v → SaysWhy db v
-says_why db (verdict.Sound version workunits results) says = tt
+says_why db (verdict.Sound counts) says = tt
 says_why db (verdict.Unsound found) says = says
 
 -- of a sound project questions show all
 says_unsound : SoundInAnyOrder → (db : Database) (v : Verdict) → (IsLegible db → Says db v) → SaysUnsound db v
-says_unsound any_order db (verdict.Sound version workunits results) says = tt
+says_unsound any_order db (verdict.Sound counts) says = tt
 says_unsound any_order db (verdict.Unsound found) says = λ p. refuted any_order db p found (says (sound_legible any_order db p))
 
 pub unsound_from : SoundInAnyOrder → (db : Database) (r : Result Verdict Fault) → (IsLegible db → IfOk r (Says db)) → IfOk r (SaysUnsound db)
@@ -162,8 +163,8 @@ pub judged_taken : (db : Database) (world : World) → Refines db world → IsJu
 judged_taken db world stands judged version is name taken = record { project = judged_project db world stands judged; is = is; taken = taken }
 
 -- and it is counted as it is
-pub judged_sound : (db : Database) (world : World) → Refines db world → IsJudged db world → (version workunits results : ℕ) → IsCounted world version workunits results → HasFreeNames db.schema version → IsSoundAs db version workunits results
-judged_sound db world stands judged version workunits results counted free = record { project = judged_project db world stands judged; counted = counted; free = free }
+pub judged_sound : (db : Database) (world : World) → Refines db world → IsJudged db world → (counts : Counts) → IsCounted world counts → HasFreeNames db.schema counts.version → IsSoundAs db counts
+judged_sound db world stands judged counts counted free = record { project = judged_project db world stands judged; counted = counted; free = free }
 
 -- ---- the queue of a world that is right but for it
 

@@ -7,6 +7,7 @@ use Rattle.sqlite_trees.specs.View.{IsShaped}
 use Rattle.sqlite_trees.specs.declared.store.Shape.TheVariants as shape
 use Rattle.wu_core.specs.World.{World}
 use Rattle.wu_core.specs.declared.workunit.Workunit.{Workunit}
+use Rattle.wu_check.specs.declared.finding.Counts.{Counts}
 use Rattle.wu_loader.specs.Shown.{AreWhole}
 use Rattle.wu_machine.specs.Machine.{present_version}
 use Rattle.wu_machine.specs.Sound.{IsSound}
@@ -40,7 +41,7 @@ pub record IsKept (db : Database) : Type 0 where
   pub whole : HasWholeRows db
 
 -- The world has this version, and so many workunits and instances.
-abbrev pub IsCounted : World → (version workunits results : ℕ) → Type 0
-IsCounted world version workunits results =
-    (version ≡ world.version) × (workunits ≡ length world.workunits)
-    × (results ≡ sum_by (λ (w : Workunit). length w.instances) world.workunits)
+abbrev pub IsCounted : World → Counts → Type 0
+IsCounted world counts =
+    (counts.version ≡ world.version) × (counts.workunits ≡ length world.workunits)
+    × (counts.results ≡ sum_by (λ (w : Workunit). length w.instances) world.workunits)

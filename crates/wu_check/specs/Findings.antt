@@ -35,6 +35,7 @@ use Rattle.wu_tables.specs.declared.project.Misfit.{Misfit}
 use Rattle.wu_tables.specs.declared.project.Misfit.TheVariants.{Missing}
 use Rattle.wu_check.specs.Checking.{IsCounted, IsKnown, IsSoundProject}
 use Rattle.wu_check.specs.Versions.{IsReadVersion}
+use Rattle.wu_check.specs.declared.finding.Counts.{Counts}
 use Rattle.wu_check.specs.declared.finding.Finding.{Finding}
 use Rattle.wu_check.specs.declared.finding.Finding.TheVariants as finding
 use Rattle.wu_check.specs.declared.finding.Key.{Key}
@@ -182,16 +183,15 @@ TellsLater limit db found = limit ≡ None → PutsLaterFirst db found
 
 -- ---- what a verdict says
 
--- The database holds a sound project of this version, with so many workunits and results. Nothing has a name that its
--- upgrade gives.
-pub record IsSoundAs (db : Database) (version workunits results : ℕ) : Type 0 where
+-- The database holds a sound project with these numbers. Nothing has a name that its upgrade gives.
+pub record IsSoundAs (db : Database) (counts : Counts) : Type 0 where
   pub project : IsSoundProject db
-  pub counted : IsCounted project.world version workunits results
-  pub free : HasFreeNames db.schema version
+  pub counted : IsCounted project.world counts
+  pub free : HasFreeNames db.schema counts.version
 
 -- If the verdict is sound, the database holds a sound project with the reported numbers.
 abbrev pub SaysSound : Database → Verdict → Type 0
-SaysSound db (verdict.Sound version workunits results) = IsSoundAs db version workunits results
+SaysSound db (verdict.Sound counts) = IsSoundAs db counts
 SaysSound db (verdict.Unsound found) = ⊤
 
 -- What is found of a sound project with this world: a name of its upgrade that something has, and nothing else.
@@ -201,22 +201,22 @@ TellsOfSound schema world _ = ⊥
 
 -- If the verdict is unsound, the database holds no sound project, or one whose upgrade gives the name that is found.
 abbrev pub SaysUnsound : Database → Verdict → Type 0
-SaysUnsound db (verdict.Sound version workunits results) = ⊤
+SaysUnsound db (verdict.Sound counts) = ⊤
 SaysUnsound db (verdict.Unsound found) = (project : IsSoundProject db) → TellsOfSound db.schema project.world found
 
 -- If the verdict is unsound, its finding is true of the database.
 abbrev pub SaysWhy : Database → Verdict → Type 0
-SaysWhy db (verdict.Sound version workunits results) = ⊤
+SaysWhy db (verdict.Sound counts) = ⊤
 SaysWhy db (verdict.Unsound found) = Tells db found
 
 -- Without a limit on steps, the finding on a project of a later version is that version.
 abbrev pub SaysLater : Option ℕ → Database → Verdict → Type 0
-SaysLater limit db (verdict.Sound version workunits results) = ⊤
+SaysLater limit db (verdict.Sound counts) = ⊤
 SaysLater limit db (verdict.Unsound found) = TellsLater limit db found
 
 -- A sound verdict holds of the database with its numbers, and an unsound one with its finding.
 abbrev pub Says : Database → Verdict → Type 0
-Says db (verdict.Sound version workunits results) = IsSoundAs db version workunits results
+Says db (verdict.Sound counts) = IsSoundAs db counts
 Says db (verdict.Unsound found) = Tells db found
 
 -- ---- while a database is checked

@@ -3,3 +3,4 @@ pub mod Queues
 pub mod Versions
 pub mod Examining
 pub mod Findings
+pub mod Verdicts

@@ -1,15 +1,15 @@
 //! Whether an open database holds a sound project.
 
-ghost use Rattle.std.specs.Prelude.{◌≡◌, IfErr};
-ghost use Rattle.wu_check.specs.Examining.{unless_refused, AnswersUnlessFailed, Examines, OnKept, OnLegible};
-ghost use Rattle.wu_check.specs.Findings.{FindsOfTables, HasWrongRow, IsBasis, IsBasisLater, IsBasisOf, Says, SaysLater, SaysSound, SaysUnsound, SaysWhy, Tells, TellsLater};
-ghost use Rattle.wu_schema.specs.Asking.{Asks, ServesUnlessFailed};
+ghost use Rattle.std.specs.Prelude.{◌≡◌};
+ghost use Rattle.wu_check.specs.Examining.{unless_refused, Examines, OnLegible};
+ghost use Rattle.wu_check.specs.Findings.{FindsOfTables, HasWrongRow, IsBasis, IsBasisLater, IsBasisOf, Says, SaysLater, Tells, TellsLater};
+ghost use Rattle.wu_check.specs.Verdicts.{Checks};
+ghost use Rattle.wu_schema.specs.Asking.{ServesUnlessFailed};
 ghost use Rattle.wu_schema.specs.Calls.{OnAnswer};
-ghost use Rattle.wu_schema.specs.Faults.{IsStoreFault};
 ghost use Rattle.wu_store.specs.Loading.{StaysUnlessFailed};
 
 use crate::counts::instances_in;
-use crate::finding::{Finding, Verdict};
+use crate::finding::{Counts, Finding, Verdict};
 use crate::judging::{is_known, judge_world};
 use crate::version::{FIRST_VERSION, version_told};
 use sqlite::{Alter, Connection};
@@ -162,39 +162,20 @@ fn examine<S: Alter>(conn: &mut Connection<S>, alloc: Global) -> Result<Verdict,
         let taken = Finding::Taken(loaded.version(), name);
         return Ok(Verdict::Unsound(taken));
     }
-    Ok(Verdict::Sound {
+    Ok(Verdict::Sound(Counts {
         version: loaded.version(),
         workunits: loaded.workunits().len() as u64,
         results: instances_in(loaded.workunits()),
-    })
+    }))
 }
 
 /// Returns whether the database holds a sound project of a version that this program knows, and nothing that keeps it
 /// from an upgrade, or what was found first. Reads all tables whole, and changes nothing.
 pub fn check<S: Alter>(conn: &mut Connection<S>, alloc: Global) -> Result<Verdict, Fault>
-    // Begins no transaction and commits nothing; except after `Memory` and `Broken` all is as
-    // before; `Broken` means a failed disk or a closed connection.
-    ensures asks { Asks S.Store conn.old conn.new result }
-    // The connection is open afterwards, except after `Memory` and `Broken`.
-    ensures opens { ServesUnlessFailed S.Store conn.new result }
-    // Over kept tables, `Sound` means that they represent a sound world of a known version with
-    // these numbers of workunits and results, and that nothing has a name that its upgrade gives.
-    ensures sound { OnKept S.Store conn.old conn.new result SaysSound }
-    // A finding means that the tables represent no sound world of a known version; or it is
-    // `Taken`, with the world's version and the first name of its upgrade that something has.
-    ensures unsound { OnAnswer S.Store conn.old conn.new result SaysUnsound }
-    // Over kept tables the finding is true, and the first in the written order: tables, their rows,
-    // keys and agreement, queue, names of an upgrade. An unknown version is that of the one row of
-    // `project`, or of what has its name. A missing `project` is `Barred` if something has a name
-    // of a new project.
-    ensures told { OnKept S.Store conn.old conn.new result SaysWhy }
-    // Over kept tables with no limit on steps, a finding reports the version that the one row of
-    // `project` has, if it is later.
-    ensures later { OnKept S.Store conn.old conn.new result (SaysLater conn.old.step_limit) }
-    // A fault is `Memory`, `Broken` or `NotAProject`.
-    ensures fault { IfErr result IsStoreFault }
-    // With no limit on steps, the only faults are `Memory` and `Broken`.
-    ensures answered { AnswersUnlessFailed S.Store conn.old conn.new result }
+    // It only reads, and each of its answers and faults means what `Checks` says: `Sound` is of a
+    // sound project with these numbers, a finding is true and the first in the written order, and
+    // with no limit on steps the only faults are `Memory` and `Broken`.
+    ensures { Checks S.Store conn.old conn.new result }
 {
     sound_in_any_order();
     examine(conn, alloc)

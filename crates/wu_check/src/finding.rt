@@ -47,15 +47,22 @@ pub enum Finding {
     Taken(u64, &'static str),
 }
 
+/// The numbers of a sound project.
+#[derive(Clone, Copy)]
+pub struct Counts {
+    /// The schema version of its tables.
+    pub version: u64,
+    /// How many workunits are present.
+    pub workunits: u64,
+    /// How many instances these have.
+    pub results: u64,
+}
+
 /// Whether a database holds a sound project that can be used or upgraded.
 #[derive(Drop)]
 pub enum Verdict {
     /// It does, of a version that this program knows.
-    Sound {
-        version: u64,
-        workunits: u64,
-        results: u64,
-    },
+    Sound(Counts),
     /// It does not, for this.
     Unsound(Finding),
 }

@@ -14,4 +14,4 @@ mod marks;
 mod version;
 
 pub use checking::check;
-pub use finding::{Finding, Key, Verdict};
+pub use finding::{Counts, Finding, Key, Verdict};

@@ -62,7 +62,9 @@ module _ {F : Type 0} (keeps : F → List ℕ → List ℕ → Type 0) where
     front_kept rows fault front =
         let it = taken first front.last front.front front.taken in
         let cause : IsCause (keeps first.files.now) first.asked.now front.rest (trouble_of_walk last.lost fault) = elim front.cause [
-          | inl (is, stops) ↦ inl (stops.line, stops.more, stops.refused.0, stops.next, stops.refused.2, ap (λ l. trouble_of_walk l fault) stops.refused.1)
+          | inl (is, stops) ↦
+              let wanted = subst (λ (a : OutputFiles). is_wanted a.name stops.line ≡ true) it.asked stops.refused.2 in
+              inl (stops.line, stops.more, stops.refused.0, stops.next, wanted, stops.refused.3, ap (λ l. trouble_of_walk l fault) stops.refused.1)
           | inr (store, same) ↦
               let lost : last.lost ≡ None = ap (λ (k : OutputKeeper F). k.lost) same ∙ it.lost ∙ none in
               inr (fault, store, ap (λ l. trouble_of_walk l fault) lost)
@@ -83,6 +85,7 @@ module _ {S F : Type 0} (g : Ghosts S) (keeps : F → List ℕ → List ℕ → 
   pub outputs_kept : (walked : Result (Unit {0}) Fault) → Walked g archived_lines IsArchiveStorable (KeepsRow keeps) LosesRow old new first last walked
       → KeepsOutputs g (keeps first.files.now) first.asked.now old new (answer_of keeps walked last)
   outputs_kept walked it = record {
+    asks = (walked, it.asks);
     some = (it.hands.0, rows_kept keeps first last none zero walked it.hands.0 it.hands.1);
     archive = λ clean world known refines. rows_kept keeps first last none zero walked (archived_lines world) (it.lines clean world known refines);
   }

@@ -12,7 +12,8 @@ use Rattle.wu_passes.specs.declared.project.Project.{Project}
 use Rattle.wu_passes.specs.Projects.{IsSessionOpen, ShowsProject, state_of}
 use Rattle.wu_arguments.specs.declared.action.Action.{Action}
 use Rattle.wu_arguments.specs.declared.action.Action.TheVariants.{Commands}
-use Rattle.wu_arguments.specs.declared.script.Mode.TheVariants.{Repeated, Tried}
+use Rattle.wu_arguments.specs.declared.script.Mode.{Mode}
+use Rattle.wu_arguments.specs.declared.script.Mode.TheVariants.{Once, Repeated, Tried}
 use Rattle.wu_arguments.specs.declared.step.LineFault.{LineFault}
 use Rattle.wu_arguments.specs.declared.step.Step.{Step}
 use Rattle.wu_cli.specs.Performing.{Performs}
@@ -48,8 +49,8 @@ unrolled_both world (x ∷ xs) ys =
 
 repeated_both : (xs ys first second : List RanStep) → AreRepeated xs first → AreRepeated ys second → AreRepeated (xs ++ ys) (first ++ second)
 repeated_both [] ys first second one two = subst (λ l. AreRepeated ys (l ++ second)) (sym one) two
-repeated_both (x ∷ xs) ys first second (times, more, order, some, once, rest) two =
-    (times, more ++ second, ap (λ l. l ++ second) order ∙ append_assoc (replicate times x) more second, some, once, repeated_both xs ys more second rest two)
+repeated_both (x ∷ xs) ys first second (times, more, order, some, most, rest) two =
+    (times, more ++ second, ap (λ l. l ++ second) order ∙ append_assoc (replicate times x) more second, some, most, repeated_both xs ys more second rest two)
 
 -- a step that is not repeated is done once
 one_round : (world : World) (ran : RanStep) → most_rounds ran.step.mode ≡ 1 → rounds world ran ≡ 1
@@ -78,9 +79,15 @@ ran_both [] ys first second one two = subst (λ l. RanAs ys (l ++ second)) (sym 
 ran_both (x ∷ xs) ys first second (stop, more, order, may, rest) two =
     (stop, more ++ second, ap (λ l. l ++ second) order, may, ran_both xs ys more second rest two)
 
+-- each step may be done once
+once_at_most : (mode : Mode) → 1 ≤ most_rounds mode
+once_at_most Once = omega arith
+once_at_most Repeated = omega arith
+once_at_most Tried = omega arith
+
 repeated_self : (steps : List RanStep) → AreRepeated steps steps
 repeated_self [] = refl
-repeated_self (step ∷ steps) = (1, steps, refl, omega arith, λ _. refl, repeated_self steps)
+repeated_self (step ∷ steps) = (1, steps, refl, omega arith, once_at_most step.step.mode, repeated_self steps)
 
 replicate_split : (i more : ℕ) (step : RanStep) → replicate (i + suc more) step ≡ replicate i step ++ step ∷ replicate more step
 replicate_split zero more step =
@@ -164,6 +171,9 @@ module _ {S W : Type 0} {store : Ghosts S} (contents : W → Option (List ℕ)) 
     abbrev step : RanStep
     step = again number action
 
+    few : i + 1 ≤ MOST_ROUNDS
+    few = omega (arith, within)
+
     -- the next round was done
     module _ (does : Performs contents mid new out_mid out_new action None) (told : Bool) (tells : TellsFull mid new action None told) where
       each_here : PerformsEach contents old new out_old out_new (replicate (i + 1) step)
@@ -192,7 +202,7 @@ module _ {S W : Type 0} {store : Ghosts S} (contents : W → Option (List ℕ)) 
         may_stop = tt;
         times = i + 1;
         some = omega arith;
-        once = λ single. absurd (single refl);
+        most = few;
         does = each_here;
         over = λ going clean world shows.
             subst (λ n. PerformsEach contents old new out_old out_new (replicate n step))
@@ -206,7 +216,7 @@ module _ {S W : Type 0} {store : Ghosts S} (contents : W → Option (List ℕ)) 
       may_stop = tt;
       times = i + 1;
       some = omega arith;
-      once = λ single. absurd (single refl);
+      most = few;
       does = cut (replicate (i + 1) step) [] (sym (replicate_more i step));
       over = λ going clean world shows.
           let kept = one_clean contents mid new out_mid out_new action (Some fault) does in
@@ -237,7 +247,7 @@ module _ {S W : Type 0} {store : Ghosts S} (contents : W → Option (List ℕ)) 
     may_stop = tt;
     times = i;
     some = omega (arith, all);
-    once = λ single. absurd (single refl);
+    most = within;
     does = has.each;
     over = λ going clean world shows.
         subst (λ n. PerformsEach contents old new out_old out_new (replicate n (again number action)))
@@ -269,7 +279,7 @@ module _ {S W : Type 0} {store : Ghosts S} (contents : W → Option (List ℕ)) 
       may_stop = may;
       times = 1;
       some = omega arith;
-      once = λ single. refl;
+      most = once_at_most ran.step.mode;
       does = steps_once ran end does;
       over = λ going clean world shows.
           subst (λ n. PerformsSteps contents old new out_old out_new (replicate n ran) (line_fault ran.step.number end)) (sym (one_round world ran once)) (steps_once ran end does);
@@ -306,7 +316,7 @@ module _ {S W : Type 0} {store : Ghosts S} (contents : W → Option (List ℕ)) 
           as_ran = first.as_ran ++ last ∷ [];
           are = ran_both front (step ∷ []) first.as_ran (last ∷ []) first.are (next.stop, [], refl, next.may_stop, refl);
           ran = first.ran ++ replicate next.times last;
-          repeats = repeated_both first.as_ran (last ∷ []) first.ran (replicate next.times last) first.repeats (next.times, [], sym (append-nil (replicate next.times last)), next.some, next.once, refl);
+          repeats = repeated_both first.as_ran (last ∷ []) first.ran (replicate next.times last) first.repeats (next.times, [], sym (append-nil (replicate next.times last)), next.some, next.most, refl);
           does = each_both contents old mid new out_old out_mid out_new first.ran (replicate next.times last) first.does next.does;
           over = λ going clean world shows.
               let kept = each_clean contents mid new out_mid out_new (replicate next.times last) next.does in
@@ -327,7 +337,7 @@ module _ {S W : Type 0} {store : Ghosts S} (contents : W → Option (List ℕ)) 
           as_ran = first.as_ran ++ last ∷ behind;
           are = ran_both front (step ∷ after) first.as_ran (last ∷ behind) first.are (next.stop, behind, refl, next.may_stop, unbegun after);
           ran = first.ran ++ (replicate next.times last ++ behind);
-          repeats = repeated_both first.as_ran (last ∷ behind) first.ran (replicate next.times last ++ behind) first.repeats (next.times, behind, refl, next.some, next.once, repeated_self behind);
+          repeats = repeated_both first.as_ran (last ∷ behind) first.ran (replicate next.times last ++ behind) first.repeats (next.times, behind, refl, next.some, next.most, repeated_self behind);
           does = until_both contents old mid new out_old out_mid out_new first.ran (replicate next.times last) behind end first.does next.does;
           over = λ going clean world shows.
               let (one, two) = next_over (Some end) next was_clean going clean world shows in

@@ -95,7 +95,7 @@ module _ {S W : Type 0} {store : Ghosts S} (contents : W → Option (List ℕ)) 
   work_clean (work.Script script) done (end, does, is) = script_clean contents old new out_old out_new script.steps end does
 
   -- a beginning of its commands is done over each world that the session goes on over
-  work_drives : (asked : Work) (done : Result (Unit {0}) Trouble) → PerformsWork contents old new out_old out_new asked done
+  pub work_drives : (asked : Work) (done : Result (Unit {0}) Trouble) → PerformsWork contents old new out_old out_new asked done
       → IsSessionOpen old → HasCleanDisk (state_of new) → (world : World) → IsOver old world
       → DrivesWork world asked done (state_of new)
   work_drives (work.Line action) done (end, does, is) going clean world over =

@@ -6,14 +6,11 @@ use Rattle.std.specs.declared.io.ErrorKind.TheVariants.{NotFound, OutOfMemory, S
 use Rattle.sqlite.specs.Held.{Held}
 use Rattle.sqlite.specs.Store.{Ghosts}
 use Rattle.wu_core.specs.declared.fault.Fault.{Fault}
-use Rattle.wu_check.specs.Examining.{AnswersUnlessFailed, OnKept}
-use Rattle.wu_check.specs.Findings.{SaysSound, SaysUnsound, SaysWhy}
+use Rattle.wu_check.specs.Verdicts.{Checks}
+use Rattle.wu_check.specs.declared.finding.Counts.{Counts}
 use Rattle.wu_check.specs.declared.finding.Verdict.{Verdict}
 use Rattle.wu_check.specs.declared.finding.Verdict.TheVariants as verdict
 use Rattle.wu_report.specs.Texts.{line_end}
-use Rattle.wu_schema.specs.Asking.{Asks}
-use Rattle.wu_schema.specs.Calls.{OnAnswer}
-use Rattle.wu_cli.specs.declared.backup.Counts.{Counts}
 use Rattle.wu_cli.specs.declared.backup.Unmade.{Unmade}
 use Rattle.wu_cli.specs.declared.backup.Unmade.TheVariants as unmade
 use Rattle.wu_cli.specs.declared.trouble.Trouble.{Trouble}
@@ -21,19 +18,14 @@ use Rattle.wu_cli.specs.declared.trouble.Trouble.TheVariants as trouble
 
 -- A sound verdict gives its numbers, and an unsound one or a fault gives that as the trouble.
 abbrev pub AreOfVerdict : Result Verdict Fault → Result Counts Trouble → Type 0
-AreOfVerdict (Ok (verdict.Sound version workunits results)) done = done ≡ Ok (record { version = version; workunits = workunits; results = results })
+AreOfVerdict (Ok (verdict.Sound counts)) done = done ≡ Ok counts
 AreOfVerdict (Ok (verdict.Unsound finding)) done = done ≡ Err (trouble.Unsound finding)
 AreOfVerdict (Err fault) done = done ≡ Err (trouble.Fault fault)
 
--- The verdict is one on what the database shows, and its numbers or its trouble are returned; the database is not
--- changed.
+-- The database is checked, which does not change it, and the numbers of the verdict or its trouble are returned.
 pub record CountsSound {S : Type 0} (g : Ghosts S) (old new : Held S) (done : Result Counts Trouble) : Type 0 where
   pub verdict : Result Verdict Fault
-  pub asks : Asks g old new verdict
-  pub sound : OnKept g old new verdict SaysSound
-  pub unsound : OnAnswer g old new verdict SaysUnsound
-  pub told : OnKept g old new verdict SaysWhy
-  pub answered : AnswersUnlessFailed g old new verdict
+  pub checks : Checks g old new verdict
   pub gives : AreOfVerdict verdict done
 
 -- The line that reports a backup.

@@ -21,14 +21,15 @@ use Rattle.wu_tables.specs.declared.known.ProjectTable.{ProjectTable}
 use Rattle.wu_tables.specs.declared.known.ProjectTable.TheVariants.{Project}
 use Rattle.wu_tables.specs.declared.project.Misfit.{Misfit}
 use Rattle.wu_tables.specs.declared.project.Misfit.TheVariants as misfit
+use Rattle.wu_check.specs.declared.finding.Counts.{Counts}
 use Rattle.wu_cli.specs.declared.reason.Reason.{Reason}
 use Rattle.wu_cli.specs.declared.reason.Reason.TheVariants as reason
 
 -- ---- a sound project
 
-abbrev pub sound_line : ℕ → ℕ → ℕ → List ℕ
-sound_line version workunits results =
-    codes "ok version=" ++ (decimal version ++ (codes " workunits=" ++ (decimal workunits ++ (codes " results=" ++ (decimal results ++ line_end)))))
+abbrev pub sound_line : Counts → List ℕ
+sound_line counts =
+    codes "ok version=" ++ (decimal counts.version ++ (codes " workunits=" ++ (decimal counts.workunits ++ (codes " results=" ++ (decimal counts.results ++ line_end)))))
 
 -- ---- an unsound one
 
@@ -90,22 +91,28 @@ finding_line (finding.Taken version name) = taken_line version name.now
 
 -- ---- why a database cannot be opened
 
+-- The words for the reason.
+abbrev pub reason_words : Reason → List ℕ
+reason_words reason.NoFile = codes "there is no such file"
+reason_words reason.LogName = codes "its name is that of a log"
+reason_words reason.LogAlone = codes "its log or its journal is there, and its file is gone or empty"
+reason_words reason.LinkedLog = codes "its log is a link"
+reason_words reason.ForeignLog = codes "something else lies in the place of its log or its journal"
+reason_words reason.InUse = codes "it is in use"
+reason_words reason.NoDatabase = codes "it is no database that this program reads"
+reason_words reason.OtherKind = codes "it has auto-vacuum or texts in UTF-16"
+reason_words reason.TwoNames = codes "its file has a second name, and its log may lie beside that"
+reason_words reason.Journal = codes "it has a rollback journal, which only sqlite3 rolls back"
+reason_words reason.Damaged = codes "it is damaged, or the log beside it is of another database"
+reason_words reason.FailingDisk = codes "the disk failed"
+reason_words reason.FullDisk = codes "the disk is full"
+reason_words reason.Refused = codes "the file cannot be opened"
+reason_words reason.Memory = codes "out of memory"
+
+-- The line that reports the reason.
 abbrev pub reason_line : Reason → List ℕ
-reason_line reason.NoFile = codes "cannot open the database: there is no such file" ++ line_end
-reason_line reason.LogName = codes "cannot open the database: its name is that of a log" ++ line_end
-reason_line reason.LogAlone = codes "cannot open the database: its log or its journal is there, and its file is gone or empty" ++ line_end
-reason_line reason.LinkedLog = codes "cannot open the database: its log is a link" ++ line_end
-reason_line reason.ForeignLog = codes "cannot open the database: something else lies in the place of its log or its journal" ++ line_end
-reason_line reason.InUse = codes "cannot open the database: it is in use" ++ line_end
-reason_line reason.NoDatabase = codes "cannot open the database: it is no database that this program reads" ++ line_end
-reason_line reason.OtherKind = codes "cannot open the database: it has auto-vacuum or texts in UTF-16" ++ line_end
-reason_line reason.TwoNames = codes "cannot open the database: its file has a second name, and its log may lie beside that" ++ line_end
-reason_line reason.Journal = codes "cannot open the database: it has a rollback journal, which only sqlite3 rolls back" ++ line_end
-reason_line reason.Damaged = codes "cannot open the database: it is damaged, or the log beside it is of another database" ++ line_end
-reason_line reason.FailingDisk = codes "cannot open the database: the disk failed" ++ line_end
-reason_line reason.FullDisk = codes "cannot open the database: the disk is full" ++ line_end
-reason_line reason.Refused = codes "cannot open the database: the file cannot be opened" ++ line_end
 reason_line reason.Memory = codes "F14 Memory" ++ line_end
+reason_line why = codes "cannot open the database: " ++ (reason_words why ++ line_end)
 
 -- The status of a check that could not be made: 4 for out of memory, else 3.
 abbrev pub reason_status : Reason → ℕ

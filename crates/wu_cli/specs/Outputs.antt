@@ -7,12 +7,12 @@ use Rattle.wu_core.specs.declared.fault.Fault.{Fault}
 use Rattle.wu_core.specs.declared.workunit.Archived.{Archived}
 use Rattle.wu_report.specs.Texts.{line_end}
 use Rattle.wu_store.specs.Classes.{ForEachClassed}
-use Rattle.wu_store.specs.Loading.{IsStoreFault}
+use Rattle.wu_store.specs.Loading.{Asks, IsStoreFault}
 use Rattle.wu_views.specs.Lines.{archived_lines}
 use Rattle.wu_arguments.specs.declared.order.OutputFiles.{OutputFiles}
 use Rattle.wu_cli.specs.Backups.{CountsSound, unmade_words}
 use Rattle.wu_cli.specs.LogNames.{is_reserved}
-use Rattle.wu_cli.specs.declared.backup.Counts.{Counts}
+use Rattle.wu_check.specs.declared.finding.Counts.{Counts}
 use Rattle.wu_cli.specs.declared.backup.Unmade.{Unmade}
 use Rattle.wu_cli.specs.declared.backup.Unmade.TheVariants as unmade
 use Rattle.wu_cli.specs.declared.outputs.KeptCounts.{KeptCounts}
@@ -70,13 +70,13 @@ module _ {F : Type 0} (keeps : F → List ℕ → List ℕ → Type 0) where
   abbrev pub KeepsRow : OutputKeeper F → OutputKeeper F → Archived → Type 0
   KeepsRow old new row = KeepsRowIf (is_wanted old.asked.now.name row) old new row
 
--- The output of this workunit has no file, or memory ran out.
+-- It names this workunit and why its output has no file, or memory ran out.
 abbrev pub IsLost : Archived → LostOutput → Type 0
 IsLost row lost = ((why : Unmade) × (lost ≡ record { number = row.number; name = row.name; why = why })) ⊎ (lost.why ≡ unmade.Memory)
 
 -- The output of a row is wanted and has no file, which is noted.
 abbrev pub LosesRow : {F : Type 0} → OutputKeeper F → OutputKeeper F → Archived → Type 0
-LosesRow old new row = (lost : LostOutput) × (new.lost ≡ Some lost) × IsLost row lost
+LosesRow old new row = (lost : LostOutput) × (new.lost ≡ Some lost) × (is_wanted old.asked.now.name row ≡ true) × IsLost row lost
 
 -- The trouble of a walk that ended with a fault.
 abbrev pub trouble_of_walk : Option LostOutput → Fault → Trouble
@@ -90,10 +90,10 @@ module _ (keeps : List ℕ → List ℕ → Type 0) (asked : OutputFiles) where
   abbrev pub HaveFiles : List Archived → Type 0
   HaveFiles rows = All (λ row. keeps (output_path asked.folder row.name) row.output) (wanted_of asked rows)
 
-  -- The trouble is that the output of the next row has no file, or a fault of the store.
+  -- The trouble is that the output of the next row is wanted and has no file, or a fault of the store.
   abbrev pub IsCause : List Archived → Trouble → Type 0
   IsCause rest told =
-      ((row : Archived) × (more : List Archived) × (lost : LostOutput) × (rest ≡ row ∷ more) × IsLost row lost × (told ≡ trouble.Lost lost))
+      ((row : Archived) × (more : List Archived) × (lost : LostOutput) × (rest ≡ row ∷ more) × (is_wanted asked.name row ≡ true) × IsLost row lost × (told ≡ trouble.Lost lost))
       ⊎ ((fault : Fault) × IsStoreFault fault × (told ≡ trouble.Fault fault))
 
   -- The wanted outputs of the first rows have their files, up to the trouble.
@@ -114,6 +114,8 @@ module _ (keeps : List ℕ → List ℕ → Type 0) (asked : OutputFiles) where
 module _ {S : Type 0} (g : Ghosts S) (keeps : List ℕ → List ℕ → Type 0) (asked : OutputFiles) where
   -- The outputs of the archive have their files.
   pub record KeepsOutputs (old new : Held S) (done : Result KeptCounts Trouble) : Type 0 where
+    -- The archive is only read.
+    pub asks : (walked : Result (Unit {0}) Fault) × Asks g old new walked
     -- What is kept are outputs of rows, whatever the tables hold.
     pub some : (rows : List Archived) × KeepsRows keeps asked rows done
     -- They are the archived workunits of each world with classes that the tables represent.

@@ -1,5 +1,5 @@
 -- How often the steps of a script are done: a repeated pass, until it handles less than its limit.
-use Rattle.std.specs.Prelude.{◌≡◌, ◌≢◌, ◌≤◌, ℕ, zero, suc, Bool, false, List, [], ◌∷◌, ◌++◌, ◌==◌, if◌then◌else◌, map, take, replicate, Option, Some, None, IfSome}
+use Rattle.std.specs.Prelude.{◌≡◌, ◌≤◌, ℕ, zero, suc, Bool, false, List, [], ◌∷◌, ◌++◌, ◌==◌, if◌then◌else◌, map, take, replicate, Option, Some, None, IfSome}
 use Rattle.wu_core.specs.World.{World}
 use Rattle.wu_drive.specs.Counting.{last_handled}
 use Rattle.wu_machine.specs.declared.command.Command.{Command}
@@ -100,8 +100,9 @@ unrolled world [] = []
 unrolled world (step ∷ steps) =
     replicate (rounds world step) step ++ unrolled (world_behind_steps world (replicate (rounds world step) step)) steps
 
--- The steps that ran are those of the script, in order: a repeated one at least once, any other once.
+-- The steps that ran are those of the script, in order: each at least once, a repeated one at most a million times, any
+-- other once.
 abbrev pub AreRepeated : List RanStep → List RanStep → Type 0
 AreRepeated [] ran = ran ≡ []
 AreRepeated (step ∷ steps) ran =
-    (times : ℕ) × (more : List RanStep) × (ran ≡ replicate times step ++ more) × (1 ≤ times) × (step.step.mode ≢ Repeated → times ≡ 1) × AreRepeated steps more
+    (times : ℕ) × (more : List RanStep) × (ran ≡ replicate times step ++ more) × (1 ≤ times) × (times ≤ most_rounds step.step.mode) × AreRepeated steps more

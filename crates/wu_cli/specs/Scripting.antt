@@ -1,5 +1,5 @@
 -- What is done for the steps of a script over a project.
-use Rattle.std.specs.Prelude.{◌≡◌, ◌≢◌, ◌≤◌, ℕ, Bool, List, [], ◌∷◌, ◌++◌, replicate, Option, Some, None}
+use Rattle.std.specs.Prelude.{◌≡◌, ◌≤◌, ℕ, Bool, List, [], ◌∷◌, ◌++◌, replicate, Option, Some, None}
 use Rattle.sqlite.specs.State.{HasCleanDisk}
 use Rattle.sqlite_trees.specs.declared.store.Store.{Ghosts}
 use Rattle.wu_core.specs.World.{World}
@@ -8,7 +8,7 @@ use Rattle.wu_drive.specs.declared.runs.Run.{Run}
 use Rattle.wu_passes.specs.declared.project.Project.{Project}
 use Rattle.wu_passes.specs.Projects.{IsSessionOpen, ShowsProject, state_of}
 use Rattle.wu_cli.specs.Trying.{PerformsRan, RanStep, step_as}
-use Rattle.wu_cli.specs.Repeating.{AreRepeated, is_full, MayStop, RanAs, rounds, unrolled}
+use Rattle.wu_cli.specs.Repeating.{AreRepeated, is_full, MayStop, most_rounds, RanAs, rounds, unrolled}
 use Rattle.wu_arguments.specs.declared.action.Action.{Action}
 use Rattle.wu_arguments.specs.declared.script.Mode.TheVariants.{Repeated}
 use Rattle.wu_arguments.specs.declared.step.LineFault.{LineFault}
@@ -44,21 +44,21 @@ module _ {S W : Type 0} {store : Ghosts S} (contents : W → Option (List ℕ)) 
 -- ---- as often as they are repeated
 
 module _ {S W : Type 0} {store : Ghosts S} (contents : W → Option (List ℕ)) where
-  -- A step is done at least once, and no more than once if it is not repeated, or ends with a fault. Over a represented
-  -- world on a clean disk the number is the one that the machine's answers give.
+  -- A step is done at least once, a repeated one at most a million times, and any other once. Over a represented world
+  -- on a clean disk the number is the one that the machine's answers give.
   pub record PerformsStep (old new : Project S store) (out_old out_new : W) (step : Step) (end : Option LineFault) : Type 0 where
     pub stop : Option ℕ
     pub may_stop : MayStop step stop
     pub times : ℕ
     pub some : 1 ≤ times
-    pub once : step.mode ≢ Repeated → times ≡ 1
+    pub most : times ≤ most_rounds step.mode
     pub does : PerformsSteps contents old new out_old out_new (replicate times (step_as step stop)) end
     pub over :
         IsSessionOpen old → HasCleanDisk (state_of new) → (world : World) → ShowsProject old world
         → PerformsSteps contents old new out_old out_new (replicate (rounds world (step_as step stop)) (step_as step stop)) end
 
-  -- The steps of a script are done in order, each at least once. Over a represented world on a clean disk these
-  -- numbers are those that the machine's answers give.
+  -- The steps of a script are done in order, each at least once, a repeated one at most a million times, and any other
+  -- once. Over a represented world on a clean disk these numbers are those that the machine's answers give.
   pub record PerformsScript (old new : Project S store) (out_old out_new : W) (steps : List Step) (end : Option LineFault) : Type 0 where
     pub as_ran : List RanStep
     pub are : RanAs steps as_ran

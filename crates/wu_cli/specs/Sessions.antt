@@ -17,7 +17,7 @@ use Rattle.wu_machine.specs.Machine.{fold_steps, present_version}
 use Rattle.wu_machine.specs.declared.command.Answer.{Answer}
 use Rattle.wu_machine.specs.declared.command.Command.{Command}
 use Rattle.wu_passes.specs.declared.project.Project.{Project}
-use Rattle.wu_passes.specs.Adopting.{Adopts, RefusesAdoption, TellsNew}
+use Rattle.wu_passes.specs.Adopting.{Adopts, RefusesAdoption, StartsOver, TellsNew}
 use Rattle.wu_passes.specs.Projects.{connection_of, has_ended, is_new, IsOver, IsSessionOpen, KnowsTables, older_version, state_of}
 use Rattle.wu_report.specs.Texts.{line_end}
 use Rattle.wu_report.specs.Writing.{WritesTo}
@@ -202,6 +202,7 @@ module _ {S W : Type 0} (g : StoreGhosts S) (contents : W → Option (List ℕ))
     pub idle : conn.in_transaction ≡ false
     pub begins : IsSessionOpen old
     pub adopts : Adopts (state g conn) (state_of old)
+    pub version : StartsOver (state g conn) (state_of old) (older_version old)
     pub knows : KnowsTables old
     pub new_is : TellsNew (state g conn) (state_of old) (is_new old)
     pub serves : ServesProject contents gives exports db old new out_old out_new in_old in_new status

@@ -14,8 +14,8 @@ use Rattle.wu_machine.specs.declared.command.Answer.{Answer}
 use Rattle.wu_machine.specs.declared.command.Command.{Command}
 use Rattle.wu_machine.specs.Sound.{IsProject}
 use Rattle.wu_passes.specs.declared.project.Project.{Project}
-use Rattle.wu_passes.specs.Adopting.{Adopts, IsAdoptionFault, IsVacant, RefusesAdoption}
-use Rattle.wu_passes.specs.Projects.{connection_of, IsSessionOpen, KnowsTables, state_of}
+use Rattle.wu_passes.specs.Adopting.{Adopts, IsAdoptionFault, IsVacant, RefusesAdoption, StartsOver}
+use Rattle.wu_passes.specs.Projects.{connection_of, IsSessionOpen, KnowsTables, older_version, state_of}
 use Rattle.wu_passes.specs.Standing.{GoesOn}
 use Rattle.wu_drive.specs.Driving.{Drives}
 use Rattle.wu_arguments.specs.Contents.{Prepares}
@@ -129,6 +129,7 @@ module _ {S W : Type 0} (g : Ghosts S) (contents : W → Option (List ℕ)) (con
     pub idle : conn.in_transaction ≡ false
     pub begins : IsSessionOpen old
     pub adopts : Adopts (state g conn) (state_of old)
+    pub version : StartsOver (state g conn) (state_of old) (older_version old)
     pub knows : KnowsTables old
     pub does : PerformsWork contents old new out_old out_new asked done
     pub released : again ≡ connection_of new

@@ -11,37 +11,19 @@ use crate::trouble::Trouble;
 use sqlite::{Alter, Connection};
 use std::alloc::Global;
 use std::io::{self, ErrorKind, Write};
-use wu_check::{Verdict, check};
+use wu_check::{Counts, Verdict, check};
 use wu_core::Fault;
 use wu_report::Piece;
-
-/// The numbers of a sound project.
-#[derive(Clone, Copy)]
-pub struct Counts {
-    pub version: u64,
-    pub workunits: u64,
-    pub results: u64,
-}
 
 /// Checks whether an open database holds a sound project, as `wu_check::check` does, and returns its numbers. Else the
 /// trouble is what keeps it from that. Nothing of the database is changed.
 pub fn count_sound<S: Alter>(alloc: Global, conn: &mut Connection<S>) -> Result<Counts, Trouble>
-    // The verdict is that of `wu_check::check`, which changes nothing. The numbers are those of a
+    // The verdict is that of `wu_check::check`, with all that it means. The numbers are those of a
     // sound project; a finding or a fault is returned as the trouble.
     ensures { CountsSound S.Store conn.old conn.new result }
 {
     match check(conn, alloc) {
-        Ok(
-            Verdict::Sound {
-                version,
-                workunits,
-                results,
-            },
-        ) => Ok(Counts {
-            version,
-            workunits,
-            results,
-        }),
+        Ok(Verdict::Sound(counts)) => Ok(counts),
         Ok(Verdict::Unsound(finding)) => Err(Trouble::Unsound(finding)),
         Err(fault) => Err(Trouble::Fault(fault)),
     }

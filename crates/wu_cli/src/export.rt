@@ -6,12 +6,13 @@ ghost use Rattle.wu_report.specs.Writing.{WritesTo};
 ghost use Rattle.wu_cli.specs.Exports.{exported_line, Exports, ExportsEach, TellsMade};
 ghost use Rattle.wu_cli.specs.Outputs.{kept_line};
 
-use crate::backup::{Counts, write_backed_up};
+use crate::backup::write_backed_up;
 use crate::outputs::KeptCounts;
 use crate::texts::write_flushed;
 use crate::trouble::Trouble;
 use std::io::Write;
 use wu_arguments::Export;
+use wu_check::Counts;
 use wu_core::Fault;
 use wu_report::Piece;
 
@@ -36,7 +37,7 @@ pub trait MakeExport {
 
     /// Makes what is asked of a copy of the sound project in the database at `path`. Else the trouble is why not.
     fn export(&self, path: &str, export: &Export) -> Result<Exported, Trouble>
-        // What is made of the database at this path is as the trait's user says.
+        // What is made of the database at this path is as the implementation's `exports` says.
         ensures { exports self.now path.now export.now result };
 }
 

@@ -9,7 +9,7 @@ ghost use Rattle.wu_cli.specs.Checks.{barred_line, finding_line, key_text, misfi
 
 use crate::texts::{placed, write_flushed, write_line};
 use std::io::Write;
-use wu_check::{Finding, Key};
+use wu_check::{Counts, Finding, Key};
 use wu_core::Fault;
 use wu_loader::finding::LoadedTable;
 use wu_loader::totals::OtherSums;
@@ -203,16 +203,9 @@ pub(crate) fn line_of_finding<W: Write>(out: &mut W, finding: &Finding) -> Resul
 }
 
 /// Writes that a database holds a sound project, and flushes.
-pub fn write_sound<W: Write>(
-    out: &mut W,
-    version: u64,
-    workunits: u64,
-    results: u64,
-) -> Result<(), Fault>
-    // With Ok exactly the line with the version and both numbers is written, and else a prefix of
-    // it.
-    ensures bytes { WritesTo W.contents out.old out.new
-        (sound_line version workunits results) result }
+pub fn write_sound<W: Write>(out: &mut W, counts: Counts) -> Result<(), Fault>
+    // With Ok exactly the line with the three numbers is written, and else a prefix of it.
+    ensures bytes { WritesTo W.contents out.old out.new (sound_line counts) result }
     // The only fault is `Output`.
     ensures fault { IsOkUnless result Output }
 {
@@ -220,11 +213,11 @@ pub fn write_sound<W: Write>(
         out,
         &[
             Piece::Text("ok version="),
-            Piece::Number(version),
+            Piece::Number(counts.version),
             Piece::Text(" workunits="),
-            Piece::Number(workunits),
+            Piece::Number(counts.workunits),
             Piece::Text(" results="),
-            Piece::Number(results),
+            Piece::Number(counts.results),
             Piece::Text("\n"),
         ],
     )

@@ -21,7 +21,7 @@ mod texts;
 mod trouble;
 mod work;
 
-pub use backup::{Counts, Unmade, count_sound};
+pub use backup::{Unmade, count_sound};
 pub use checking::check_over;
 pub use explaining::explain;
 pub use export::{Exported, MakeExport, export_each, report_made};
@@ -35,3 +35,4 @@ pub use serving::serve_over;
 pub use texts::{write_fault, write_refusal};
 pub use trouble::{Trouble, unheard, unopened};
 pub use work::Work;
+pub use wu_check::Counts;

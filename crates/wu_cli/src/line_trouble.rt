@@ -51,7 +51,7 @@ fn write_refused<W: Write>(out: &mut W, why: &Refusal) -> Result<(), Fault>
 impl LineTrouble {
     /// Returns whether it is that the output failed, so that the text of the line was cut.
     pub fn cuts(&self) -> bool
-        // It cuts the text exactly if it is the fault of the output.
+        // It cuts the text exactly if it is a refusal with the fault of the output.
         ensures { result ≡ cuts_text self.now }
     {
         match self {

@@ -50,8 +50,8 @@ pub fn perform_script<S: Alter, W: Write>(
     out: &mut W,
 ) -> (u8, Option<LineFault>)
     // The steps are done in order, each over what the one before left, up to the first fault. A
-    // step is done once; a repeated pass again after each answer that is its limit, and after no
-    // other, at most a million times. A refusal of a tried step is passed over.
+    // step is done once, and a repeated one at most a million times: over a world, again after each
+    // answer that is its limit, and after no other. A refusal of a tried step is passed over.
     ensures does { PerformsScript W.contents project.old project.new out.old out.new
         steps.now result.1 }
     // The status is 0 without a fault, and else that of the fault.

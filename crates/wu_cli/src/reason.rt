@@ -2,10 +2,14 @@
 
 ghost use Rattle.std.specs.Prelude.{◌≡◌};
 ghost use Rattle.std.specs.IoError.{error_kind};
-ghost use Rattle.wu_cli.specs.Checks.{reason_line, reason_of, reason_of_copy, reason_of_file, reason_of_reading, reason_status};
+ghost use Rattle.wu_cli.specs.Checks.{reason_line, reason_of, reason_of_copy, reason_of_file, reason_of_reading, reason_status, reason_words};
+ghost use Rattle.wu_report.specs.Writing.{WritesTo};
 
+use crate::texts::{line_of_fault, worded};
 use sqlite::{Error, ErrorCode};
-use std::io::{self, ErrorKind};
+use std::alloc::AllocError;
+use std::io::{self, ErrorKind, Write};
+use wu_core::Fault;
 
 /// Why a database cannot be opened.
 #[derive(Clone, Copy, PartialEq, Eq)]
@@ -38,6 +42,17 @@ pub enum Reason {
     Refused,
     /// A growth of memory was refused.
     Memory,
+}
+
+impl From<AllocError> for Reason {
+    ghost use Rattle.wu_cli.specs.declared.reason.Reason.TheVariants.{Memory};
+
+    // A failed allocation becomes `Memory`.
+    ghost from_gives = { λ _ reason. reason ≡ Memory };
+
+    fn from(_error: AllocError) -> Reason {
+        Reason::Memory
+    }
 }
 
 impl Reason {
@@ -104,41 +119,38 @@ impl Reason {
         }
     }
 
-    /// Returns the line that reports the reason.
-    pub fn line(self) -> &'static str
-        // The line is the reason's one text.
-        ensures { result.now ≡ reason_line self }
+    /// Returns the words for the reason, which end the line that reports it.
+    pub fn words(self) -> &'static str
+        // The words are the reason's one text.
+        ensures { result.now ≡ reason_words self }
     {
         match self {
-            Reason::NoFile => "cannot open the database: there is no such file\n",
-            Reason::LogName => "cannot open the database: its name is that of a log\n",
-            Reason::LogAlone => {
-                "cannot open the database: its log or its journal is there, and its file is gone or empty\n"
-            }
-            Reason::LinkedLog => "cannot open the database: its log is a link\n",
-            Reason::ForeignLog => {
-                "cannot open the database: something else lies in the place of its log or its journal\n"
-            }
-            Reason::InUse => "cannot open the database: it is in use\n",
-            Reason::NoDatabase => {
-                "cannot open the database: it is no database that this program reads\n"
-            }
-            Reason::OtherKind => {
-                "cannot open the database: it has auto-vacuum or texts in UTF-16\n"
-            }
-            Reason::TwoNames => {
-                "cannot open the database: its file has a second name, and its log may lie beside that\n"
-            }
-            Reason::Journal => {
-                "cannot open the database: it has a rollback journal, which only sqlite3 rolls back\n"
-            }
-            Reason::Damaged => {
-                "cannot open the database: it is damaged, or the log beside it is of another database\n"
-            }
-            Reason::FailingDisk => "cannot open the database: the disk failed\n",
-            Reason::FullDisk => "cannot open the database: the disk is full\n",
-            Reason::Refused => "cannot open the database: the file cannot be opened\n",
-            Reason::Memory => "F14 Memory\n",
+            Reason::NoFile => "there is no such file",
+            Reason::LogName => "its name is that of a log",
+            Reason::LogAlone => "its log or its journal is there, and its file is gone or empty",
+            Reason::LinkedLog => "its log is a link",
+            Reason::ForeignLog => "something else lies in the place of its log or its journal",
+            Reason::InUse => "it is in use",
+            Reason::NoDatabase => "it is no database that this program reads",
+            Reason::OtherKind => "it has auto-vacuum or texts in UTF-16",
+            Reason::TwoNames => "its file has a second name, and its log may lie beside that",
+            Reason::Journal => "it has a rollback journal, which only sqlite3 rolls back",
+            Reason::Damaged => "it is damaged, or the log beside it is of another database",
+            Reason::FailingDisk => "the disk failed",
+            Reason::FullDisk => "the disk is full",
+            Reason::Refused => "the file cannot be opened",
+            Reason::Memory => "out of memory",
         }
+    }
+}
+
+/// Writes the line that reports why a database cannot be opened, and flushes.
+pub(crate) fn line_of_reason<W: Write>(out: &mut W, reason: Reason) -> Result<(), Fault>
+    // With Ok exactly the line of the reason is written, and else a prefix of it.
+    ensures { WritesTo W.contents out.old out.new (reason_line reason) result }
+{
+    match reason {
+        Reason::Memory => line_of_fault(out, Fault::Memory),
+        _ => worded(out, "cannot open the database: ", reason.words()),
     }
 }

@@ -62,8 +62,8 @@ pub fn act<S: Alter, W: Write>(
     // fault is that one's.
     ensures does { Performs W.contents project.old project.new out.old out.new
         action.now result.0 }
-    // Without a fault, there may be more to do exactly where the action is one pass that handles as
-    // many workunits as its limit.
+    // Over a world and without a fault, there may be more to do exactly where the action is one pass
+    // that handles as many workunits as its limit.
     ensures full { TellsFull project.old project.new action.now result.0 result.1 }
 {
     match action {
@@ -181,8 +181,8 @@ pub fn perform_step<S: Alter, W: Write>(
     step: &Step,
     out: &mut W,
 ) -> (u8, Option<LineFault>)
-    // A step is done once; a repeated pass again after each answer that is its limit, and after no
-    // other, at most a million times. A refusal of a tried step is passed over.
+    // A step is done once, and a repeated one at most a million times: over a world, again after
+    // each answer that is its limit, and after no other. A refusal of a tried step is passed over.
     ensures does { PerformsStep W.contents project.old project.new out.old out.new
         step.now result.1 }
     // The status is 0 without a fault, and else that of the fault.

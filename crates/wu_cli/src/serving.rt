@@ -1,5 +1,6 @@
 //! A session over an open database: its project is adopted, and the lines of an input are answered over it.
 
+ghost use Rattle.std.specs.Prelude.{◌≡◌, IfErr};
 ghost use Rattle.wu_report.specs.Writing.{WritesTo};
 ghost use Rattle.wu_passes.specs.Projects.{older_version};
 ghost use Rattle.wu_cli.specs.Sessions.{ready_line, ServesOver, ServesProject};
@@ -70,10 +71,12 @@ pub fn serve_over<S: Alter, R: BufRead, F: ReadFile + MakeExport, W: Write, E: W
 ) -> (Connection<S>, Result<u8, Trouble>)
     // The project is adopted, and the lines are answered over it; or none is adopted, no line is
     // read, and nothing goes out.
-    ensures { ServesOver S.Store W.contents (F.ReadFile.gives files.now)
+    ensures serves { ServesOver S.Store W.contents (F.ReadFile.gives files.now)
         (F.MakeExport.exports files.now) db.now
         conn result.0 out.old out.new
         (R.remaining input.old) (R.remaining input.new) result.1 }
+    // Where none is adopted, nothing is written on standard error.
+    ensures silent { IfErr result.1 (λ _. err.new ≡ err.old) }
 {
     match Project::adopt(conn) {
         Ok(mut project) => {

@@ -251,8 +251,9 @@ pub fn serve<S: Alter, R: BufRead, F: ReadFile + MakeExport, W: Write, E: Write>
     out: &mut W,
     err: &mut E,
 ) -> u8
-    // The lines of the input are done and answered, in order, each over what the one before it
-    // left; none is left out, and none is done twice.
+    // Of an input whose bytes are known the lines are done and answered in order, each over what the
+    // one before it left, up to its end or to one that ends the session. None of these is left out,
+    // and none is done twice.
     ensures { RunsSession W.contents (F.ReadFile.gives files.now)
         (F.MakeExport.exports files.now) db.now
         project.old project.new out.old out.new

@@ -204,6 +204,7 @@ fn outsider_line(outsider: &Outsider) -> &'static str
 
 /// Writes why a line of a script cannot be run.
 pub(crate) fn text_of_refusal<W: Write>(out: &mut W, why: &Refusal) -> Result<(), Fault>
+    // With Ok exactly the text of the refusal is written, and else a prefix of it.
     ensures { WritesTo W.contents out.old out.new (refusal_text why.now) result }
 {
     match why {

@@ -13,9 +13,9 @@ use crate::backup::{Unmade, line_of_unmade};
 use crate::findings::line_of_finding;
 use crate::linting::{Unread, text_of_unread};
 use crate::outputs::{LostOutput, line_of_lost};
-use crate::reason::Reason;
+use crate::reason::{Reason, line_of_reason};
 use crate::texts::{
-    line_of_bad_line, line_of_fault, line_of_line_fault, text_of_usage, write_line, write_text,
+    line_of_bad_line, line_of_fault, line_of_line_fault, text_of_usage, write_line,
 };
 use sqlite::Error;
 use std::alloc::{AllocError, AllocFailed};
@@ -152,7 +152,7 @@ pub(crate) fn write_trouble<E: Write>(trouble: &Trouble, err: &mut E) -> Result<
         Trouble::Unopened => write_line(err, "cannot open the database"),
         Trouble::Fault(fault) => line_of_fault(err, *fault),
         Trouble::LineFault(end) => line_of_line_fault(err, *end),
-        Trouble::Unchecked(reason) => write_text(err, reason.line()),
+        Trouble::Unchecked(reason) => line_of_reason(err, *reason),
         Trouble::Unsound(finding) => line_of_finding(err, finding),
         Trouble::Unmade(why) => line_of_unmade(err, *why),
         Trouble::NoFolder => write_line(err, "cannot write the outputs: the folder is not there"),

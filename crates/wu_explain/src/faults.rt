@@ -2,76 +2,12 @@
 
 ghost use Rattle.std.specs.Prelude.{◌≤◌, IfSome, length};
 
-/// Returns the number of the fault of this number or name, in lower case, as `f3` or `badfile`; `None` if there is no
-/// such fault. The name of F17 is not among them, as in lower case it is a cause of F3.
-fn fault_number<'a>(word: &str) -> Option<&'a str> {
-    match word {
-        "f1" | "badname" => Some("F1"),
-        "f2" | "badtemplate" => Some("F2"),
-        "f3" | "badfile" => Some("F3"),
-        "f4" | "nameused" => Some("F4"),
-        "f5" | "workunitused" => Some("F5"),
-        "f6" | "toomany" => Some("F6"),
-        "f7" | "badmoment" => Some("F7"),
-        "f8" | "badlimit" => Some("F8"),
-        "f9" | "unknownworkunit" => Some("F9"),
-        "f10" | "notopentocancel" => Some("F10"),
-        "f11" | "oldschema" => Some("F11"),
-        "f12" | "newschema" => Some("F12"),
-        "f13" | "notaproject" => Some("F13"),
-        "f14" | "memory" => Some("F14"),
-        "f15" | "broken" => Some("F15"),
-        "f16" | "ended" => Some("F16"),
-        "f17" => Some("F17"),
-        _ => None,
-    }
-}
-
-/// Returns the explanation of the fault of this number and this name, in lower case, as its line begins; `None` if
-/// there is no such fault.
-pub fn printed_fault_text<'a>(number: &str, name: &str) -> Option<&'a str>
-    // A text that is returned is not empty.
-    ensures { IfSome result (λ text. 1 ≤ length text.now) }
-{
-    // its name alone is a cause of F3
-    if number == "f17" && name == "output" {
-        return fault_text("F17");
-    }
-    match (fault_number(number), fault_number(name)) {
-        (Some(one), Some(other)) if one == other => fault_text(one),
-        _ => None,
-    }
-}
-
-/// Returns the explanation of the fault of this name, in lower case, without its number; `None` if there is no such fault.
-pub fn unnumbered_fault_text<'a>(name: &str) -> Option<&'a str>
-    // A text that is returned is not empty.
-    ensures { IfSome result (λ text. 1 ≤ length text.now) }
-{
-    match fault_number(name) {
-        // each name is longer than its number
-        Some(number) if number.len() < name.len() => fault_text(number),
-        _ => None,
-    }
-}
-
-/// Returns the explanation of the fault of this number or name, in lower case; `None` if there is no such fault.
-pub fn named_fault_text<'a>(word: &str) -> Option<&'a str>
-    // A text that is returned is not empty.
-    ensures { IfSome result (λ text. 1 ≤ length text.now) }
-{
-    match fault_number(word) {
-        Some(number) => fault_text(number),
-        None => None,
-    }
-}
-
 /// Returns the explanation of the fault of this number, as `F3`; `None` if there is no such fault.
-fn fault_text<'a>(name: &str) -> Option<&'a str>
+pub fn fault_text<'a>(number: &str) -> Option<&'a str>
     // A text that is returned is not empty.
     ensures { IfSome result (λ text. 1 ≤ length text.now) }
 {
-    match name {
+    match number {
         "F1" => Some(
             "F1 BadName
 The name of an import or of a workunit is not valid. Write 1 to 64 letters,

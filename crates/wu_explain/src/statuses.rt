@@ -23,9 +23,9 @@ were before it. Of a cycle and of a script the commands before it are done.
         ),
         "2" => Some(
             "Status 2
-The words of a line are none, ask for help or the version, or name no view or
-topic; nothing was opened. lintelthyme help lists the subcommands, and lintelthyme
-help SUBCOMMAND their options.
+The words of a line are none or no UTF-8, ask for help or the version, or name no
+view, topic or kind; nothing of that line was done. lintelthyme help lists the
+subcommands, and lintelthyme help SUBCOMMAND their options.
 ",
         ),
         "3" => Some(
@@ -42,6 +42,7 @@ PATH-journal, as a folder or a text, move it away. Nothing is opened, either, wh
 the path is that of a log, or where the file is no database.
 check --db PATH names the cause, where a copy of both files shows it; explain checks
 has what else sqlite3 can tell.
+Where the disk did not take a backup or an output, the project is as it was.
 Else open it again by show --view summary: each command that was acknowledged is
 there, and the last one whole or not at all. Then repeat that command. An import
 under its name with its content acts once, a pass does what is still to do, a

@@ -38,7 +38,7 @@ backup or outputs report are taken as they are printed. Quote a line of more tha
 words.
 ",
         ),
-        "view" | "views" => Some(
+        "view" => Some(
             "The views, each printed by lintelthyme show --db PATH --view VIEW
   workunits     a line for each workunit
   results       a line for each instance
@@ -206,7 +206,7 @@ each of at most 65,536 bytes:
   lintelthyme session --db PATH
 ",
         ),
-        "cancels" | "cancel" => Some(
+        "cancels" => Some(
             "cancel --db PATH --workunit NAME gives up a workunit that is undecided, and prints
   cancel NAME: done
 Its mask has 16 from then on: explain mask. The passes close its instances, and

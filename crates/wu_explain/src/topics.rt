@@ -1,238 +1,157 @@
-//! The topic that words nearly name.
+//! The topic of words as they are typed, or as the program prints them.
 
+use crate::index::{topic_of, topic_of_any};
 use crate::lowered::{MOST_BYTES, lowered};
-use std::alloc::Global;
-use strsim::osa_distance;
 
-/// The topics in lower case, one a line, without the numbers of faults. A view, a file and a status have their kind before
-/// their name, which is a topic without it too. `tools/docs` holds them against the tables of this crate.
-const TOPICS: &str = "view workunits
-view results
-view hosts
-view archive
-view summary
-view classes
-badname
-badtemplate
-badfile
-nameused
-workunitused
-toomany
-badmoment
-badlimit
-unknownworkunit
-notopentocancel
-oldschema
-newschema
-notaproject
-memory
-broken
-ended
-file jobs
-file sends
-file reports
-file classes
-causes
-skips
-template
-names
-moments
-imports
-passes
-mask
-waits
-scripts
-cancels
-cancel
-checks
-backups
-lint
-outputs
-unknown
-not_unsent
-same_host
-class
-not_sent
-wrong_host
-before_sent
-over
-unreadable
-too_long
-header
-too_many_rows
-fields
-name
-input
-result
-host
-moment
-status
-output
-document
-min_quorum
-target_nresults
-delay_bound
-credit
-max_error_results
-max_total_results
-max_success_results
-batch
-sent
-reported
-transition
-validate
-assimilate
-delete
-purge
-cycle
-script
-session
-repeat
-try
-upgrade
-check
-backup
-view
-views
-unsent
-in_progress
-success
-client_error
-no_reply
-didnt_need
-validate_error
-client_detached
-valid
-invalid
-no_check
-inconclusive
-too_late
-init
-ready
-done
-quorum
-target
-max_error
-max_total
-max_success
-delay
-canonical
-deadline
-received
-total
-grants
-rows
-applied
-skipped
-first
-made
-there
-undecided
-given_up
-overdue
-next_deadline
-next
-archived
-version
-status 0
-status 1
-status 2
-status 3
-status 4
-status 5";
-
-/// How many letters of a name a word has at least that is taken for its beginning. A name of fewer letters, as that of
-/// a status, is near to itself alone.
-const FEWEST_LETTERS: usize = 3;
-
-/// Returns the name of a topic without its kind, which is a topic too.
-fn name_of(topic: &'static str) -> &'static str {
-    match topic.split_once(' ') {
-        Some((_kind, name)) => name,
-        None => topic,
+/// Returns the topic of a column with its value, as a view or a check prints it, by its name; of another word that of a
+/// state. `None` if there is neither.
+fn topic_of_cell(word: &str) -> Option<&'static str> {
+    match word.split_once('=') {
+        Some((name, _value)) => topic_of("column", name).or(topic_of("count", name)),
+        None => topic_of("state", word),
     }
 }
 
-/// Returns whether a name begins with this word, which has enough letters for that.
-fn is_beginning(word: &str, name: &str) -> bool {
-    FEWEST_LETTERS <= word.len() && name.starts_with(word)
+/// Returns the topic of one word: the list of all topics if it is empty. A column may have its value after it.
+fn topic_of_word(word: &str) -> Option<&'static str> {
+    if word.is_empty() {
+        return Some("");
+    }
+    if word.split_once('=').is_some() {
+        return topic_of_cell(word);
+    }
+    topic_of_any(word)
 }
 
-/// Returns whether one edit makes this word of a name: a letter more, less or another, or two neighbouring letters
-/// exchanged. Out of memory it is `false`.
-fn is_one_edit_from(alloc: Global, word: &str, name: &str) -> bool {
-    FEWEST_LETTERS <= name.len() && osa_distance(alloc, word, name).is_ok_and(|edits| edits == 1)
-}
-
-/// Returns whether a word is a name, its beginning, or one edit from it. Out of memory it may be `false`.
-fn is_near(alloc: Global, word: &str, name: &str) -> bool {
-    word == name || is_beginning(word, name) || is_one_edit_from(alloc, word, name)
-}
-
-/// Returns the first name that begins with this word.
-fn begun_by(word: &str) -> Option<&'static str> {
-    for topic in TOPICS.lines() {
-        let name = name_of(topic);
-        if is_beginning(word, name) {
-            return Some(name);
-        }
+/// Returns the topic of the fault of this number and this name; `None` if there is no such fault.
+fn topic_of_numbered(number: &str, name: &str) -> Option<&'static str> {
+    let topic = topic_of("number", number)?;
+    // the name of F17 alone is a cause of F3
+    if topic == "F17" && name == "output" || topic_of("fault", name)? == topic {
+        return Some(topic);
     }
     None
 }
 
-/// Returns the first name that is one edit from this word. Out of memory it is `None`.
-fn one_edit_from(alloc: Global, word: &str) -> Option<&'static str> {
-    for topic in TOPICS.lines() {
-        let name = name_of(topic);
-        if is_one_edit_from(alloc, word, name) {
-            return Some(name);
-        }
-    }
-    None
+/// Returns the topic of a fault as it is printed, with its number or without.
+fn topic_of_fault(first: &str, second: &str) -> Option<&'static str> {
+    topic_of_numbered(first, second).or(topic_of("fault", first))
 }
 
-/// Returns the first topic with a kind that the first word is near to, and with a name that the second word is near to;
-/// where the second word is empty, the first topic of the kind.
-fn nearest_of_kind(alloc: Global, first: &str, second: &str) -> Option<&'static str> {
-    for topic in TOPICS.lines() {
-        if let Some((kind, name)) = topic.split_once(' ')
-            && is_near(alloc, first, kind)
-            && (second.is_empty() || is_near(alloc, second, name))
-        {
-            return Some(topic);
-        }
+/// Returns the topic of a line that counts, with its number or `-`.
+fn topic_of_count(first: &str, second: &str) -> Option<&'static str> {
+    match second.as_bytes().first() {
+        Some(byte) if byte.is_ascii_digit() || *byte == b'-' => topic_of("count", first),
+        _ => None,
     }
-    None
 }
 
-/// Returns the topic that a word nearly names: the first that it begins, else the first that is one edit from it, else
-/// the first of the kind that it is near to.
-fn nearest_to_word(alloc: Global, word: &str) -> Option<&'static str> {
-    if let Some(name) = begun_by(word) {
-        return Some(name);
+/// Returns the topic of words by the first two, and by whether further words stand after them.
+fn topic_of_two(first: &str, second: &str, goes_on: bool) -> Option<&'static str> {
+    if goes_on {
+        return topic_of_fault(first, second)
+            .or(topic_of("answer", first))
+            .or(topic_of("report", first));
     }
-    if let Some(name) = one_edit_from(alloc, word) {
-        return Some(name);
+    match first {
+        _ if second.is_empty() => topic_of_word(first),
+        "view" | "file" | "status" => topic_of(first, second),
+        _ => topic_of_fault(first, second)
+            .or(topic_of_count(first, second))
+            .or(topic_of("answer", first)),
     }
-    nearest_of_kind(alloc, word, "")
 }
 
-/// Returns the topic that these words nearly name, as it is typed behind `explain`; the words are in any case, and the
-/// second one is empty where there is none. A word is near to a name that it is, that begins with three or more of its
-/// letters, or that differs by one edit: a letter more, less or another, or two neighbouring letters exchanged.
-///
-/// One word names the first topic that is near, as `hosts`. `file`, or a word that is near to it alone, names the first of
-/// its kind, `file jobs`; `view` and `status` are topics of their own. Of two words the first
-/// has to be near to `view`, `file` or `status`, and the second to a name of that kind: `view hosts`. Returns `None` if
-/// there is no such topic, or if memory runs out. No clause says which topic is near.
-pub fn nearest(alloc: Global, first: &str, second: &str) -> Option<&'static str> {
+/// Returns whether these words stand before a fault where it is printed: `=` and a status in a session, or `line` and its
+/// number with a colon for a script.
+fn stands_before_fault(first: &str, second: &str) -> bool {
+    match (first, second.strip_suffix(':')) {
+        ("=", None) => topic_of("status", second).is_some(),
+        ("line", Some(number)) => number.parse::<u16>().is_ok(),
+        _ => false,
+    }
+}
+
+/// Returns whether these words stand before why a row was skipped where it is printed: `row` and its number with a colon.
+fn stands_before_skip(first: &str, second: &str) -> bool {
+    match (first, second.strip_suffix(':')) {
+        ("row", Some(number)) => number.parse::<u16>().is_ok(),
+        _ => false,
+    }
+}
+
+/// Returns the topic of why something was not done, by the first two words of the reason: a fault, or what cannot be done
+/// or is unknown.
+fn topic_of_reason(first: &str, second: &str) -> Option<&'static str> {
+    match first {
+        "cannot" | "unknown" => topic_of(first, second),
+        "line" | "only" => Some("scripts"),
+        _ => topic_of_numbered(first, second),
+    }
+}
+
+/// Returns the topic of a line that was not done, as a session or a script reports it: of the reason after the first two
+/// words, or else of the status or of scripts.
+fn topic_of_line(first: &str, second: &str, third: &str, fourth: &str) -> Option<&'static str> {
+    let otherwise = match first {
+        "=" => topic_of("status", second),
+        _ => Some("scripts"),
+    };
+    topic_of_reason(third, fourth).or(otherwise)
+}
+
+/// Returns the topic of a line that a view prints, by a state or a column that it has; `None` if it has none.
+fn topic_of_row(second: &str, third: &str) -> Option<&'static str> {
+    // one view alone prints a class second, and one a mask third
+    if second.starts_with("class=") {
+        return Some("view classes");
+    }
+    if third.starts_with("mask=") {
+        return Some("view archive");
+    }
+    topic_of_cell(second).or(topic_of_cell(third))
+}
+
+/// Returns the topic of these words in lower case.
+fn topic_of_lowered(first: &str, second: &str, third: &str, fourth: &str) -> Option<&'static str> {
+    if stands_before_fault(first, second) {
+        return topic_of_line(first, second, third, fourth);
+    }
+    if stands_before_skip(first, second) {
+        return topic_of("skip", third);
+    }
+    match (first, second) {
+        ("=", "ready") => Some("scripts"),
+        ("cannot", _) => topic_of("cannot", second),
+        ("unknown", word) if !word.is_empty() => topic_of("unknown", word),
+        (_, "skipped:") => Some("skips"),
+        ("host", _) if third == "errors" => Some("waits"),
+        ("ok", path) if !path.is_empty() && third.is_empty() => Some("lint"),
+        _ => topic_of_two(first, second, !third.is_empty() || !fourth.is_empty()).or(topic_of_row(
+            second, third,
+        )),
+    }
+}
+
+/// Returns the topic of these words, in any case, each empty where there is none; `None` if there is no such topic.
+pub fn topic_of_words(
+    first: &str,
+    second: &str,
+    third: &str,
+    fourth: &str,
+) -> Option<&'static str> {
+    // as F17 prints it; in other cases it is a cause of F3
+    if first == "Output" && second.is_empty() && third.is_empty() {
+        return Some("F17");
+    }
     let mut first_room = [0; MOST_BYTES];
     let mut second_room = [0; MOST_BYTES];
-    let first = lowered(first, &mut first_room)?;
-    let second = lowered(second, &mut second_room)?;
-    if second.is_empty() {
-        nearest_to_word(alloc, first)
-    } else {
-        nearest_of_kind(alloc, first, second)
-    }
+    let mut third_room = [0; MOST_BYTES];
+    let mut fourth_room = [0; MOST_BYTES];
+    topic_of_lowered(
+        lowered(first, &mut first_room)?,
+        lowered(second, &mut second_room)?,
+        lowered(third, &mut third_room)?,
+        lowered(fourth, &mut fourth_room)?,
+    )
 }

@@ -3,12 +3,12 @@ use Rattle.std.proofs.Common.{◌≡◌, ◌⊎◌, ℕ, zero, suc, Option, ◌+
 use Rattle.std.proofs.Math.Logic.{∥∥₁_map}
 use Rattle.std.proofs.lemmas.List.{map-append, take_more}
 use Rattle.std.proofs.lemmas.Option.{get_or_from_slice_get, slice_get_within}
-use Rattle.std.specs.Prelude.{slice_get}
+use Rattle.std.specs.Prelude.{slice_get, ⊤}
 use Rattle.sqlite.specs.State.{State}
 use Rattle.sqlite.specs.Tree.{Trees}
 use Rattle.wu_core.specs.World.{World}
 use Rattle.wu_passes.specs.Committing.{FoundAs}
-use Rattle.wu_drive.specs.Driving.{AnswerAll, Drives, EndsBy, world_after}
+use Rattle.wu_drive.specs.Driving.{AnswerAll, Drives, EndsBy, EndsEarly, world_after}
 use Rattle.wu_machine.specs.Machine.{fold_steps, step}
 use Rattle.wu_machine.specs.Commands.{request_of}
 use Rattle.wu_machine.specs.Sound.{IsProject}
@@ -19,8 +19,8 @@ use Rattle.wu_passes.specs.Standing.{GoesOn, MayEnd}
 use Rattle.wu_machine.specs.declared.command.Answer.{Answer}
 use Rattle.wu_machine.specs.declared.command.Command.{Command}
 use Rattle.wu_drive.specs.declared.runs.Run.{Run}
-use Rattle.wu_lives.specs.Lives.{AreOf, AreSessionsOf, commands_of, HasLived, IsSessionOf, Transcript, WritesTold}
-use Rattle.wu_lives.specs.Reopening.{HoldsBeginning, IsKept}
+use Rattle.wu_lives.specs.Lives.{AreOf, AreSessionsOf, commands_of, EachDoesAll, EndEach, HasLived, IsSessionOf, Transcript, WritesTold}
+use Rattle.wu_lives.specs.Reopening.{DoesAll, HoldsBeginning, IsKept}
 use Rattle.wu_stops.specs.Stopping.{IsCommitted, IsReopened}
 use Rattle.wu_stops.proofs.StoppingLemmas.{goes_again}
 use Rattle.wu_machine.specs.Sessions.{Lived, world_accepted, world_lived, world_of_life}
@@ -88,7 +88,7 @@ answers_none world commands (answer ∷ answers) run none count = absurd (omega 
 
 -- ---- the next session of a life
 
-sessions_more : (world : World) (told : List Transcript) (life : List Lived) (next : Transcript) (lived : Lived) → AreSessionsOf world told life → IsSessionOf (world_of_life world life) next lived
+pub sessions_more : (world : World) (told : List Transcript) (life : List Lived) (next : Transcript) (lived : Lived) → AreSessionsOf world told life → IsSessionOf (world_of_life world life) next lived
     → AreSessionsOf world (told ++ next ∷ []) (life ++ lived ∷ [])
 sessions_more world [] [] next lived all it = (it, tt)
 sessions_more world [] (l ∷ life) next lived all it = absurd all
@@ -99,12 +99,12 @@ pub lived_none : {S : Type 0} {g : Store.Ghosts S} (world : World) (session : Pr
 lived_none world session over = record { life = []; sessions = tt; over = over }
 
 -- a beginning of its commands is found, so it is lived
-record IsFoundAs (world : World) (told : Transcript) (after : World) : Type 0 where
+pub record IsFoundAs (world : World) (told : Transcript) (after : World) : Type 0 where
   pub lived : Lived
   pub is : IsSessionOf world told lived
   pub left : world_lived world lived ≡ after
 
-found_as : (world : World) (told : Transcript) (count : ℕ) → IsKept told.commands told.run count → AnswerAll world (take told.run.acknowledged told.commands) told.answers → IsFoundAs world told (world_after world told.commands count)
+pub found_as : (world : World) (told : Transcript) (count : ℕ) → IsKept told.commands told.run count → AnswerAll world (take told.run.acknowledged told.commands) told.answers → IsFoundAs world told (world_after world told.commands count)
 found_as world told count kept answered = elim (nat_cases count told.run.acknowledged kept.has_acknowledged kept.at_most_one_more) [
   | inl same ↦ record {
     lived = record { session = session_of told.commands told.run false; is_cut_in = false };
@@ -131,7 +131,7 @@ found_as world told count kept answered = elim (nat_cases count told.run.acknowl
     at_place (command ∷ more) zero low = (command, refl)
     at_place (command ∷ more) (suc i) low = at_place more i (omega (arith, low))
 
-pub lived_more : {S T : Type 0} {g : Store.Ghosts S} {h : Store.Ghosts T} (world : World) (told : List Transcript) (next : Transcript) (old : Project S g) (new : Project T h) → (lived : HasLived world told old)
+abbrev pub lived_more : {S T : Type 0} {g : Store.Ghosts S} {h : Store.Ghosts T} (world : World) (told : List Transcript) (next : Transcript) (old : Project S g) (new : Project T h) → (lived : HasLived world told old)
     → (holds : HoldsBeginning (world_of_life world lived.life) next.commands next.run (state_of new)) → IsOfItsVersion new (world_after (world_of_life world lived.life) next.commands holds.count)
     → AnswerAll (world_of_life world lived.life) (take next.run.acknowledged next.commands) next.answers → HasLived world (told ++ next ∷ []) new
 lived_more world told next old new lived holds knows answered =
@@ -142,6 +142,15 @@ lived_more world told next old new lived holds knows answered =
       sessions = sessions_more world told lived.life next it.lived lived.sessions it.is;
       over = subst (λ w. IsOver new w) (sym left) (record { is_project = holds.project; version = knows; goes = holds.goes });
     }
+
+-- why each session ended, with one more
+pub ends_more : (begun : Type 0) (world : World) (told : List Transcript) (life : List Lived) (next : Transcript) (lived : Lived) → AreSessionsOf world told life → EndEach begun world told life
+    → (begun ⊎ (1 ≤ length told) → EndsEarly (world_of_life world life) next.commands next.run) → EndEach begun world (told ++ next ∷ []) (life ++ lived ∷ [])
+ends_more begun world [] [] next lived all ends why = (λ on. why (inl on), tt)
+ends_more begun world [] (l ∷ life) next lived all ends why = absurd all
+ends_more begun world (t ∷ told) [] next lived all ends why = absurd all
+ends_more begun world (t ∷ told) (l ∷ life) next lived (one, all) (first, ends) why =
+    (first, ends_more ⊤ (world_lived world l) told life next lived all ends (λ on. why (inr (omega arith))))
 
 pub written_more : (old mid new : Option (List ℕ)) (told : List Transcript) (next : Transcript) → WritesTold old mid told → WritesAnswers mid new next.answers next.run → WritesTold old new (told ++ next ∷ [])
 written_more old mid new [] next same written = (new, subst (λ o. WritesAnswers o new next.answers next.run) same written, refl)
@@ -163,3 +172,16 @@ of_more lives i life d runs more told next low there same pushed are = record {
 -- and one more run
 pub one_more : (runs more : List Run) (run : Run) (count : ℕ) → more ≡ runs ++ run ∷ [] → length runs ≡ count → length more ≡ count + 1
 one_more runs more run count pushed so_far = rw (pushed) (length-append runs (run ∷ []) ∙ ap (λ n. n + 1) so_far)
+
+-- each of them did all of its list
+all_more : (lives : List (Vec Command Global)) (runs : List Run) (life : Vec Command Global) (run : Run) → EachDoesAll lives runs → DoesAll life.items run → EachDoesAll (lives ++ life ∷ []) (runs ++ run ∷ [])
+all_more [] [] life run each it = (it, tt)
+all_more [] (r ∷ runs) life run each it = absurd each
+all_more (l ∷ lives) [] life run each it = absurd each
+all_more (l ∷ lives) (r ∷ runs) life run (first, rest) it = (first, all_more lives runs life run rest it)
+
+pub each_more : (lives : List (Vec Command Global)) (i : ℕ) (life d : Vec Command Global) (runs more : List Run) (run : Run) → i < length lives → get_or lives i d ≡ life → more ≡ runs ++ run ∷ []
+    → EachDoesAll (take i lives) runs → DoesAll life.items run → EachDoesAll (take (i + 1) lives) more
+each_more lives i life d runs more run low there pushed each it =
+    subst (λ rs. EachDoesAll (take (i + 1) lives) rs) (sym pushed)
+    (subst (λ ls. EachDoesAll ls (runs ++ run ∷ [])) (sym (take_more lives i d low ∙ ap (λ l. take i lives ++ l ∷ []) there)) (all_more (take i lives) runs life run each it))

@@ -23,6 +23,7 @@ use Rattle.sqlite.specs.Tree.{Trees}
 use Rattle.sqlite.proofs.Theorems.{opens_again}
 use Rattle.wu_core.specs.World.{World}
 use Rattle.wu_drive.specs.Driving.{AnswerAll, DrivesProject, EndsBy, world_after}
+use Rattle.wu_drive.specs.Running.{RunsList}
 use Rattle.wu_drive.specs.declared.runs.Run.{Run}
 use Rattle.wu_machine.specs.Sessions.{world_of_life}
 use Rattle.sqlite_trees.specs.declared.store.Store as Store
@@ -33,7 +34,8 @@ use Rattle.wu_passes.specs.Committing.{FoundAs}
 use Rattle.wu_passes.specs.Projects.{IsOver, IsSessionOpen, IsSessionEnded, KnowsTables, state_of}
 use Rattle.wu_passes.specs.Standing.{GoesOn, MayEnd}
 use Rattle.wu_passes.specs.declared.project.Project.{Project}
-use Rattle.wu_lives.specs.Runs.{BeginsOver, HoldsBeginningIn, HoldsWorld, LeavesBeginnings, LivesOn, TellsFirst, told_by}
+use Rattle.wu_lives.specs.Reopening.{IsLeftByRun}
+use Rattle.wu_lives.specs.Runs.{BeginsOver, DoesFirst, HoldsBeginningIn, HoldsWorld, LivesOn, told_by}
 use Rattle.wu_stops.proofs.BeginningLemmas.{empty_vacant, goes_from_trees, no_database}
 use Rattle.wu_lives.proofs.ReopeningLemmas.{IsBeginning, answers_none, beginning_none, beginning_of, lived_more}
 
@@ -89,6 +91,27 @@ module _ {D : Type 0} {g : Ghosts D} (old mid : Project (FileStore D g) over_fil
     | inr going ↦ (drives going clean world over).answered
   ]
 
+-- so the machine does what a run did, as it left its session
+module _ {D W : Type 0} {g : Ghosts D} {contents : W → Option (List ℕ)} {old mid : Project (FileStore D g) over_files} {out_old out_new : W} {commands : List Command} {run : Run}
+    (it : RunsList contents old mid out_old out_new commands run) where
+  pub left_by : IsLeftByRun old commands run mid
+  left_by = record { ends = it.ends; broken = it.broken; same = λ was. (it.ended was).0; lives = it.lives }
+
+  nothing : IsSessionEnded old → (mid ≡ old) × (run.acknowledged ≡ 0)
+  nothing was = ((it.ended was).0, (it.ended was).2)
+
+  pub does_first : (files : Files D) → (AreClean g files.log files.db → HasCleanDisk (state_of mid))
+      → (AreClean g files.log files.db → (world : World) → ((db : Trees) → (state_of mid).may_leave db → IsBeginning world commands run db)
+      → (image : Image) → outcomes g files.log files.db image → ∥ HoldsBeginningIn world commands run image ∥₁)
+      → DoesFirst old commands run it.answers.0 files
+  does_first files early each =
+      let (answers, written, drives, drives_from) = it.answers in
+      record {
+        replies = λ honest world over. answered_at old mid commands answers run written.counted drives it.ends nothing (early honest) world over;
+        beginnings = λ honest world over. each honest world (begins_at old mid commands answers run written.counted drives it.ends nothing (early honest) world over);
+        why = λ going honest world over. (drives going (early honest) world over).end;
+      }
+
 -- the second run opened such an image
 module _ {D : Type 0} {g : Ghosts D} (again : Held (FileStore D g)) (opened : IsOpened again) (image : Image) (found : FindsIn image (file_state again)) where
   pub goes_in : SeenMayStay g → (world : World) → HoldsWorld image world → GoesOn (file_state again) world
@@ -98,12 +121,12 @@ module _ {D : Type 0} {g : Ghosts D} (again : Held (FileStore D g)) (opened : Is
   vacant_in blank = empty_vacant again opened (no_database image _ blank found.reads)
 
 -- and the life goes on over both
-pub lives_on : {D T : Type 0} {g : Ghosts D} {h : Store.Ghosts T} (old : Project (FileStore D g) over_files) (commands : List Command) (run : Run) (before after : Option (List ℕ)) (answers : List Answer) (files : Files D) (image : Image) (new : Project T h)
-    → TellsFirst old commands run before after answers files → LeavesBeginnings old commands run files → BeginsOver image (state_of new) → KnowsTables new → LivesOn old commands run answers files image new
-lives_on old commands run before after answers files image new tells leaves begins knows honest may clean world told lived =
+pub lives_on : {D T : Type 0} {g : Ghosts D} {h : Store.Ghosts T} (old : Project (FileStore D g) over_files) (commands : List Command) (run : Run) (answers : List Answer) (files : Files D) (image : Image) (new : Project T h)
+    → DoesFirst old commands run answers files → BeginsOver image (state_of new) → KnowsTables new → LivesOn old commands run answers files image new
+lives_on old commands run answers files image new does begins knows honest may clean world told lived =
     let start : World = world_of_life world lived.life in
-    ∥∥₁_map (leaves honest start lived.over image may) (λ it.
+    ∥∥₁_map (does.beginnings honest start lived.over image may) (λ it.
     let first : 1 ≤ (world_after start commands it.count).version = it.project.first in
     let goes : GoesOn (state_of new) (world_after start commands it.count) = (begins (world_after start commands it.count) first it.held clean).0 in
     lived_more world told (told_by commands answers run) old new lived (record { count = it.count; kept = it.kept; goes = goes; project = it.project })
-    (knows clean (world_after start commands it.count) goes.stands) (tells.1 honest start lived.over))
+    (knows clean (world_after start commands it.count) goes.stands) (does.replies honest start lived.over))

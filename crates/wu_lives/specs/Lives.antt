@@ -4,7 +4,7 @@ use Rattle.std.specs.declared.alloc.Global.{Global}
 use Rattle.sqlite_trees.specs.declared.store.Store as Store
 use Rattle.wu_core.specs.World.{World}
 use Rattle.wu_drive.specs.declared.runs.Run.{Run}
-use Rattle.wu_drive.specs.Driving.{AnswerAll, EndsBy, session_of}
+use Rattle.wu_drive.specs.Driving.{AnswerAll, EndsBy, EndsEarly, session_of}
 use Rattle.wu_drive.specs.Writing.{WritesAnswers}
 use Rattle.wu_machine.specs.declared.command.Answer.{Answer}
 use Rattle.wu_machine.specs.declared.command.Command.{Command}
@@ -12,7 +12,7 @@ use Rattle.wu_passes.specs.declared.project.Project.{Project}
 use Rattle.wu_passes.specs.Projects.{IsOver, IsSessionOpen, state_of}
 use Rattle.wu_machine.specs.Sessions.{Lived, world_lived, world_of_life}
 use Rattle.wu_passes.specs.Standing.{MayEnd}
-use Rattle.wu_lives.specs.Reopening.{OfEachWorld}
+use Rattle.wu_lives.specs.Reopening.{DoesAll, OfEachWorld}
 
 -- What a session reported: the commands that it was given, its answers, and how far it went.
 pub record Transcript : Type 0 where
@@ -42,6 +42,18 @@ pub record HasLived {S : Type 0} {g : Store.Ghosts S} (world : World) (told : Li
   pub sessions : AreSessionsOf world told life
   pub over : IsOver found (world_of_life world life)
 
+-- Each session that ended early reports why. Of the first one this is said only if it had not ended before.
+abbrev pub EndEach : Type 0 → World → List Transcript → List Lived → Type 0
+EndEach begun world [] life = ⊤
+EndEach begun world (told ∷ more) [] = ⊤
+EndEach begun world (told ∷ more) (lived ∷ life) =
+    (begun → EndsEarly world told.commands told.run) × EndEach ⊤ (world_lived world lived) more life
+
+-- The session goes on over the world after a history of these sessions, each of which reports why it ended early.
+pub record LivesOnFrom {S : Type 0} {g : Store.Ghosts S} (old : Project S g) (world : World) (told : List Transcript) (found : Project S g) : Type 0 where
+  pub lived : HasLived world told found
+  pub ends : EndEach (IsSessionOpen old) world told lived.life
+
 -- The texts of the answers of all sessions are written, one after another.
 abbrev pub WritesTold : Option (List ℕ) → Option (List ℕ) → List Transcript → Type 0
 WritesTold old new [] = new ≡ old
@@ -61,11 +73,19 @@ pub record AreOf (lives : List (List Command)) (runs : List Run) (told : List Tr
 abbrev pub TellsLives : {S : Type 0} {g : Store.Ghosts S} → Option (List ℕ) → Option (List ℕ) → Project S g → List (Vec Command Global) → List Run → Project S g → Type 0
 TellsLives before after old lives runs new =
     (told : List Transcript) × AreOf (commands_of lives) runs told × WritesTold before after told
-    × OfEachWorld old (state_of new) (λ world. ∥ HasLived world told new ∥₁)
+    × OfEachWorld old (state_of new) (λ world. ∥ LivesOnFrom old world told new ∥₁)
 
 -- There is a run for each list of commands.
 abbrev pub RunsEach : List (Vec Command Global) → List Run → Type 0
 RunsEach lives runs = length runs ≡ length lives
+
+-- There is a run for each list. It acknowledged at most the commands of the list, and exactly those if nothing ended
+-- it.
+abbrev pub EachDoesAll : List (Vec Command Global) → List Run → Type 0
+EachDoesAll [] [] = ⊤
+EachDoesAll [] (run ∷ runs) = ⊥
+EachDoesAll (life ∷ lives) [] = ⊥
+EachDoesAll (life ∷ lives) (run ∷ runs) = DoesAll life.items run × EachDoesAll lives runs
 
 -- After at least one list the session goes on; without a list it goes on if it did before.
 abbrev pub GoesOnAfter : {S : Type 0} {g : Store.Ghosts S} → Project S g → List (Vec Command Global) → Project S g → Type 0

@@ -70,15 +70,6 @@ module _ {D : Type 0} {g : Ghosts D} (old : Project (FileStore D g) over_files) 
   abbrev pub OfFirst : Files D → (World → Type 0) → Type 0
   OfFirst files holds = AreClean g files.log files.db → (world : World) → IsOver old world → holds world
 
-  -- The texts of these answers are written, and they are the machine's replies to the commands that the first run
-  -- acknowledged.
-  abbrev pub TellsFirst : Option (List ℕ) → Option (List ℕ) → List Answer → Files D → Type 0
-  TellsFirst before after answers files = WritesAnswers before after answers run × OfFirst files (λ world. AnswerAll world (take run.acknowledged commands) answers)
-
-  -- There are such answers of the first run.
-  abbrev pub TellsAnswers : Option (List ℕ) → Option (List ℕ) → Files D → Type 0
-  TellsAnswers before after files = (answers : List Answer) × TellsFirst before after answers files
-
   -- If its session went on, the first run reports why it ended early.
   abbrev pub WhyEnded : Files D → Type 0
   WhyEnded files = IsSessionOpen old → OfFirst files (λ world. EndsEarly world commands run)
@@ -87,9 +78,27 @@ module _ {D : Type 0} {g : Ghosts D} (old : Project (FileStore D g) over_files) 
   abbrev pub LeavesBeginnings : Files D → Type 0
   LeavesBeginnings files = OfFirst files (λ world. (image : Image) → outcomes g files.log files.db image → ∥ HoldsBeginningIn world commands run image ∥₁)
 
-  -- So do the files of the store that a failed close left, if its trees are numbered as the catalog says.
-  abbrev pub LeavesUnclosed : FileStore D g → Type 0
-  LeavesUnclosed store = IsNumbered store → (files : Files D) → (files.log, files.db) ≡ store_files store → LeavesBeginnings files
+  -- The first run did what the machine does, and a crash leaves the world after a prefix of its list.
+  pub record DoesFirst (answers : List Answer) (files : Files D) : Type 0 where
+    -- The answers are the machine's replies to the commands that the run acknowledged.
+    pub replies : OfFirst files (λ world. AnswerAll world (take run.acknowledged commands) answers)
+    pub beginnings : LeavesBeginnings files
+    pub why : WhyEnded files
+
+  -- The texts of these answers are written, and the first run left these files.
+  pub record LeavesFiles (before after : Option (List ℕ)) (files : Files D) : Type 0 where
+    pub answers : List Answer
+    pub written : WritesAnswers before after answers run
+    pub left : AreLeft files
+    pub does : DoesFirst answers files
+
+  -- The same after a close that failed, of the files of the store that it gave back. That the run did what the machine
+  -- does is said if the store's trees are numbered as its catalog says.
+  pub record LeavesStore (before after : Option (List ℕ)) (store : FileStore D g) : Type 0 where
+    pub answers : List Answer
+    pub written : WritesAnswers before after answers run
+    pub left : (files : Files D) → (files.log, files.db) ≡ store_files store → AreLeft files
+    pub does : IsNumbered store → (files : Files D) → (files.log, files.db) ≡ store_files store → DoesFirst answers files
 
   -- If the second run begins over such an image, it goes on from the world of the history over both runs.
   abbrev pub LivesOn : {T : Type 0} {h : Store.Ghosts T} → List Answer → Files D → Image → Project T h → Type 0
@@ -97,19 +106,8 @@ module _ {D : Type 0} {g : Ghosts D} (old : Project (FileStore D g) over_files) 
       AreClean g files.log files.db → outcomes g files.log files.db image → HasCleanDisk (state_of new) → (world : World) (told : List Transcript) → HasLived world told old
       → ∥ HasLived world (told ++ told_by commands answers run ∷ []) new ∥₁
 
-  -- What the first run reported, with the files that it left.
-  abbrev pub AnswersFirst : Option (List ℕ) → Option (List ℕ) → Type 0
-  AnswersFirst before after = (files : Files D) × AreLeft files × TellsAnswers before after files
-
-  -- Why the first run ended, with the files that it left.
-  abbrev pub EndsFirst : Type 0
-  EndsFirst = (files : Files D) × AreLeft files × WhyEnded files
-
-  -- What a crash may leave of the first run, with the files that it left.
-  abbrev pub LeavesFirst : Type 0
-  LeavesFirst = (files : Files D) × AreLeft files × LeavesBeginnings files
-
-  -- What the first run reported, and the history over both runs.
-  abbrev pub LivesOver : {T : Type 0} {h : Store.Ghosts T} → Option (List ℕ) → Option (List ℕ) → Image → Project T h → Type 0
-  LivesOver before after image new =
-      (files : Files D) × AreLeft files × ((answers : List Answer) × TellsFirst before after answers files × LivesOn answers files image new)
+  -- What the first run reported and left, and the history over both runs.
+  pub record LivesOver {T : Type 0} {h : Store.Ghosts T} (before after : Option (List ℕ)) (image : Image) (new : Project T h) : Type 0 where
+    pub files : Files D
+    pub first : LeavesFiles before after files
+    pub lives : LivesOn first.answers files image new

@@ -5,7 +5,7 @@
 ghost use Rattle.std.specs.Prelude.{IfSome};
 ghost use Rattle.sqlite.specs.Files.{file_state};
 ghost use Rattle.wu_passes.specs.Projects.{state_of};
-ghost use Rattle.wu_lives.specs.Lives.{GoesOnAfter, RunsEach, TellsLives};
+ghost use Rattle.wu_lives.specs.Lives.{EachDoesAll, GoesOnAfter, RunsEach, TellsLives};
 ghost use Rattle.wu_lives.specs.Reopening.{AdoptsLeft, DoesAll, TellsEnded, FindsBeginning, FindsLeft, IsBegun, TellsEnd, TellsReplies};
 ghost use Rattle.wu_stops.specs.Stopping.{WasClean};
 
@@ -129,9 +129,13 @@ pub fn live_all<D: Crash + Drop, W: Write>(
     ensures begins { IfSome result (λ r. GoesOnAfter project lives.now r.1) }
     // There is one run for each list.
     ensures count { IfSome result (λ r. RunsEach lives.now r.0.items) }
+    // Each run acknowledges at most the commands of its list, and all of them if no fault ended it.
+    ensures all { IfSome result (λ r. EachDoesAll lives.now r.0.items) }
     // The texts of the answers went out session by session, each the machine's reply; after
     // `Output` the last one of a session may be cut. The tables represent the world of a history of
     // these sessions, each cut command in or out, and one is cut only after `Memory` or `Broken`.
+    // Each session over one that had not ended ends early with the machine's refusal of the next
+    // command, a fault of the store, or `Output`.
     ensures found { IfSome result (λ r.
         TellsLives (W.contents out.old) (W.contents out.new) project
         lives.now r.0.items r.1) }

@@ -7,7 +7,7 @@ ghost use Rattle.std.specs.Prelude.{IfErr, IfOk, IfSome};
 ghost use Rattle.sqlite_wal.specs.Files.{image_at};
 ghost use Rattle.wu_passes.specs.Projects.{state_of};
 ghost use Rattle.wu_lives.specs.Reopening.{DoesAll, IsBegun, TellsEnded};
-ghost use Rattle.wu_lives.specs.Runs.{AnswersFirst, AreLeft, BeginsBlank, BeginsOver, EndsFirst, LeavesFirst, LeavesBeginnings, LeavesUnclosed, LivesOver, TellsAnswers, WhyEnded};
+ghost use Rattle.wu_lives.specs.Runs.{BeginsBlank, BeginsOver, LeavesFiles, LeavesStore, LivesOver};
 
 use crate::driving::drive_and_release;
 use sqlite::{Connection, FileFrom, FileStore, Files, Start};
@@ -28,22 +28,18 @@ pub fn run_and_leave<D: Disk + Drop, W: Write>(
     commands: &[Command],
     out: &mut W,
 ) -> (Run, Files<D>)
-    // The files are those that the released session left.
-    ensures files { AreLeft project commands.now result.0 result.1 }
     // The texts of the answers went out, each the machine's reply to an acknowledged command; after
-    // `Output` the last one may be cut.
-    ensures answers { TellsAnswers project commands.now result.0
+    // `Output` the last one may be cut. The files are those that the released session left. Each
+    // image that a crash may leave of them holds the world after a prefix: each acknowledged
+    // command, and one more only after `Memory` or `Broken`. Over a session that had not ended, a
+    // run ends early with the machine's refusal of the next command, a fault of the store, or
+    // `Output`.
+    ensures leaves { LeavesFiles project commands.now result.0
         (W.contents out.old) (W.contents out.new) result.1 }
-    // Each image that a crash may leave holds the world after a prefix: each acknowledged command,
-    // and one more only after `Memory` or `Broken`.
-    ensures left { LeavesBeginnings project commands.now result.0 result.1 }
     // The run acknowledges at most the commands of the list, and all of them if no fault ended it.
     ensures all { DoesAll commands.now result.0 }
     // Over a session that had ended, nothing is done or written, and a fault of the run is `Ended`.
     ensures ended { TellsEnded project out.old out.new result.0 }
-    // Over a session that had not ended, a run ends early with the machine's refusal of the next
-    // command, a fault of the store, or `Output`.
-    ensures ends { WhyEnded project commands.now result.0 result.1 }
 {
     let (run, conn) = drive_and_release(alloc, project, commands, out);
     (run, store_of(conn).close())
@@ -61,18 +57,18 @@ pub fn run_and_close<D: Disk + Drop, W: Write>(
     commands: &[Command],
     out: &mut W,
 ) -> (Run, Result<Files<D>, FileStore<D>>)
-    // After a close that succeeded, the files are those that the released session left.
-    ensures files { IfOk result.1 (AreLeft project commands.now result.0) }
-    // After a close that succeeded, the texts of the answers went out, each the machine's reply.
-    // After `Output` the last one may be cut.
-    ensures answers { IfOk result.1 (TellsAnswers project commands.now result.0
+    // After a close that succeeded, the files are those that the released session left, and the
+    // texts of the answers went out, each the machine's reply. After `Output` the last one may be
+    // cut. Each crash image holds the world after a prefix: each acknowledged command, and one more
+    // only after `Memory` or `Broken`. Over a session that had not ended, a run ends early with the
+    // machine's refusal of the next command, a fault of the store, or `Output`.
+    ensures leaves { IfOk result.1 (LeavesFiles project commands.now result.0
         (W.contents out.old) (W.contents out.new)) }
-    // After a close that succeeded, each crash image holds the world after a prefix: each
-    // acknowledged command, and one more only after `Memory` or `Broken`.
-    ensures left { IfOk result.1 (LeavesBeginnings project commands.now result.0) }
-    // After a close that failed, the same holds of the files of its store, if each tree of the
-    // store has the number that its catalog says.
-    ensures unclosed { IfErr result.1 (LeavesUnclosed project commands.now result.0) }
+    // After a close that failed, the texts went out too, and the store is that of the session. The
+    // rest holds of the files of its store, if each tree of the store has the number that its
+    // catalog says.
+    ensures unclosed { IfErr result.1 (LeavesStore project commands.now result.0
+        (W.contents out.old) (W.contents out.new)) }
     // The run acknowledges at most the commands of the list, and all of them if no fault ended it.
     ensures all { DoesAll commands.now result.0 }
     // Over a session that had ended, nothing is done or written, and a fault of the run is `Ended`.
@@ -131,14 +127,11 @@ pub fn run_and_begin_again<D: Disk + Drop, S: Start, W: Write>(
     // version this program knows.
     ensures found { IfSome result (λ r. BeginsOver (image_at S.Start) (state_of r.1)) }
     // The texts of the first run's answers went out, each the machine's reply to an acknowledged
-    // command; after `Output` the last one may be cut.
-    ensures answers { IfSome result (λ r.
-        AnswersFirst project commands.now r.0 (W.contents out.old) (W.contents out.new)) }
-    // Each image that a crash may leave of the first run's files holds the world after a prefix. It
-    // has each acknowledged command, and one more only after `Memory` or `Broken`.
-    ensures left { IfSome result (λ r. LeavesFirst project commands.now r.0) }
-    // If the second run found such an image, its tables represent the world of the history over
-    // both runs.
+    // command; after `Output` the last one may be cut. Each image that a crash may leave of its
+    // files holds the world after a prefix: each acknowledged command, and one more only after
+    // `Memory` or `Broken`. If the second run found such an image, its tables represent the world
+    // of the history over both runs. Over a session that had not ended, the first run ends early
+    // with the machine's refusal of the next command, a fault of the store, or `Output`.
     ensures lives { IfSome result (λ r. LivesOver project commands.now r.0
         (W.contents out.old) (W.contents out.new) (image_at S.Start) r.1) }
     // The first run acknowledges at most the commands of the list, and all of them if no fault
@@ -147,9 +140,6 @@ pub fn run_and_begin_again<D: Disk + Drop, S: Start, W: Write>(
     // Over a session that had ended, the first run does and writes nothing, and a fault of it is
     // `Ended`.
     ensures ended { IfSome result (λ r. TellsEnded project out.old out.new r.0) }
-    // Over a session that had not ended, the first run ends early with the machine's refusal of the
-    // next command, a fault of the store, or `Output`.
-    ensures ends { IfSome result (λ r. EndsFirst project commands.now r.0) }
 {
     let (run, files) = run_and_leave(rt.alloc(), project, commands, out);
     drop(files);

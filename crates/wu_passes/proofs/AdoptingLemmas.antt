@@ -15,7 +15,7 @@ use Rattle.wu_schema.specs.Calls.{IsBack, IsDone, IsMade, IsRefused, IsUndone, L
 use Rattle.wu_schema.specs.Faults.{IsFailure}
 use Rattle.wu_schema.specs.Fresh.{IsTakenFault, MakesProject}
 use Rattle.wu_schema.specs.Refines.{Refines}
-use Rattle.wu_schema.specs.Versions.{AnswersVersion, HasProject, HasVersion}
+use Rattle.wu_schema.specs.Versions.{AnswersVersion, HasProject, HasVersion, RefusesVersion}
 use Rattle.wu_machine.specs.Machine.{present_version}
 use Rattle.wu_machine.specs.Requests.{Request}
 use Rattle.wu_machine.specs.Sound.{IsProject}
@@ -23,7 +23,7 @@ use Rattle.wu_store.specs.Loading.{IsStoreFault}
 use Rattle.wu_store.specs.StandsFor.{StandsFor}
 use Rattle.wu_store.proofs.SameWorld.{one_world}
 use Rattle.wu_passes.specs.Standing.{GoesOn, HasEnded, ShowsWorld, TellsLater}
-use Rattle.wu_passes.specs.Adopting.{Adopts, BreaksBetween, FindsProject, IsAdoptionFault, IsRefusalOf, IsVacant, KeepsAll, KnowsVersion, LeavesFresh, LeavesNoMore, older_than_present, RefusesAdoption, TellsNew}
+use Rattle.wu_passes.specs.Adopting.{Adopts, BreaksBetween, FindsProject, IsAdoptionFault, IsKnownRow, IsRefusalOf, IsVacant, KeepsAll, KnowsVersion, LeavesFresh, LeavesNoMore, older_than_present, RefusesAdoption, RefusesRow, TellsNew}
 use Rattle.wu_passes.specs.declared.project.Project.{Project}
 use Rattle.wu_passes.specs.Projects.{connection_of, FailsAgain, GoesOnAgain, state_of}
 use Rattle.wu_passes.proofs.StandingLemmas.{goes_read}
@@ -117,6 +117,40 @@ taken_fault fault (inr (inr refused)) breaks = inl refused
 -- a lone row has one version
 one_version : (db : Database) (has : HasProject db.schema) (a b : ℕ) → HasVersion db has a → HasVersion db has b → a ≡ b
 one_version db has a b (first, one) (second, other) = let same = sym one.1 ∙ other.1 in cc
+
+-- the version that was read is that of the row
+read_version : (db : Database) (found : Option ℕ) (version : ℕ) → found ≡ Some version → AnswersVersion db found → (has : HasProject db.schema) → HasVersion db has version
+read_version db found version is answers has =
+    let (one, one_is, of) = answers.of_row has in
+    let same : one ≡ version = let so = sym one_is ∙ is in cc in
+    subst (λ n. HasVersion db has n) same of
+
+-- and this program knows it,
+pub row_known : (db : Database) (found : Option ℕ) (version : ℕ) → found ≡ Some version → AnswersVersion db found → version ≤ present_version → IsKnownRow db version
+row_known db found version is answers known = (read_version db found version is answers, known)
+
+-- or it is later,
+pub row_later : (limit : Option ℕ) (db : Database) (found : Option ℕ) (version : ℕ) (fault : Fault) → found ≡ Some version → AnswersVersion db found → TellsLater version fault → RefusesRow limit db fault
+row_later limit db found version fault is answers later = record {
+  later = λ one told.
+      let same : version ≡ one = let so = sym later.0 ∙ told in cc in
+      (λ has. subst (λ n. HasVersion db has n) same (read_version db found version is answers has), subst (λ n. present_version < n) same later.1);
+  only = λ bare has one of. inr (subst (λ n. TellsLater n fault) (one_version db has version one (read_version db found version is answers has) of) later);
+}
+
+-- or there is no row,
+pub row_absent : (limit : Option ℕ) (db : Database) (found : Option ℕ) → found ≡ None → AnswersVersion db found → RefusesRow limit db NotAProject
+row_absent limit db found none answers = record {
+  later = λ version told. absurd cc;
+  only = λ bare has version of. let (one, one_is, stored) = answers.of_row has in absurd (let no = sym one_is ∙ none in cc);
+}
+
+-- or the question was refused
+pub row_unread : (limit : Option ℕ) (db : Database) (fault : Fault) → IsStoreFault fault → RefusesVersion limit db fault → RefusesRow limit db fault
+row_unread limit db fault told refuses = record {
+  later = λ version is. absurd (never_later fault version told is);
+  only = λ bare has version of. inl (refuses.of_row has version of bare);
+}
 
 -- a world's version is that of the row
 pub version_stands : (db : Database) (world : World) (stands : Refines db world) → 1 ≤ world.version → HasVersion db (project_of db world stands) world.version

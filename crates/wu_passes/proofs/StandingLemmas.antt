@@ -15,7 +15,7 @@ use Rattle.wu_schema.specs.Calls.{LeavesOnly, IsBack, IsDone, IsMade, IsRefused,
 use Rattle.wu_schema.specs.Others.{SparesOthers}
 use Rattle.wu_passes.specs.Adopting.{KeepsAll, LeavesNoMore}
 use Rattle.wu_store.specs.Changing.{AreRight, made_all, MakesWorlds}
-use Rattle.wu_passes.specs.Committing.{FoundAs}
+use Rattle.wu_passes.specs.Committing.{FoundAs, FoundSparing}
 use Rattle.wu_machine.specs.Machine.{done, reply, reply_of, step, world_of}
 use Rattle.wu_plans.specs.Planning.{IsPlan, Plans}
 use Rattle.wu_machine.specs.Commands.{reply_of_answer}
@@ -221,7 +221,13 @@ from_cut old new world request answer changes fault clean stands shows plans sto
       let (now, committed) = undone.now is_open in
       let same : new.now ≡ old.now = now ∙ was.1 in
       (subst (λ (d : Database). StandsFor d world) (sym same) was.0, committed ∙ sym now),
-  λ db may. elim (survives.crash clean db may) [ inl before ↦ inl before | inr after ↦ inr (subst (λ w. FoundAs db w) (sym (step_is world request answer changes plans)) (record { database = after.0; same = after.1; stands = after.2.stands world stands plans.right })) ],
+  λ db may. elim (survives.crash clean db may) [
+    | inl before ↦ inl before
+    | inr after ↦ inr (subst (λ w. FoundSparing old.now db w) (sym (step_is world request answer changes plans)) (record {
+      found = record { database = after.0; same = after.1; stands = after.2.stands world stands plans.right };
+      spares = after.2.spares world stands plans.right;
+    }))
+  ],
 )
 
 -- a plan was refused
@@ -230,9 +236,10 @@ pub from_unplanned : (old new : State) (world : World) (request : Request) (ende
 from_unplanned old new world request true fault clean shows back survives told = (told, shows_back old new world back shows, λ db may. inl (leaves_read old new clean survives db may))
 from_unplanned old new world request false fault clean shows back survives told = (told, shows_back old new world back shows, leaves_read old new clean survives)
 
-pub most_then : (ended : Bool) (old mid new : State) (world : World) (request : Request) → LeavesNoMore old mid → LeavesAtMost ended mid new world request → LeavesAtMost ended old new world request
-most_then true old mid new world request kept most = λ db may. elim (most db may) [ inl before ↦ inl (kept db before) | inr after ↦ inr after ]
-most_then false old mid new world request kept most = λ db may. kept db (most db may)
+pub most_then : (ended : Bool) (old mid new : State) (world : World) (request : Request) → KeepsAll old mid → LeavesAtMost ended mid new world request → LeavesAtMost ended old new world request
+most_then true old mid new world request kept most =
+    λ db may. elim (most db may) [ inl before ↦ inl (kept.left db before) | inr after ↦ inr (subst (λ (d : Database). FoundSparing d db (step world request)) kept.now after) ]
+most_then false old mid new world request kept most = λ db may. kept.left db (most db may)
 
 -- what is carried out after a question
 pub from_then : (old mid new : State) (world : World) (request : Request) (ended : Bool) (r : Result Answer Fault) → KeepsAll old mid → RunsFrom mid world request ended new r → RunsFrom old world request ended new r
@@ -240,7 +247,7 @@ from_then old mid new world request ended (Ok answer) kept runs = (
   runs.0,
   elim runs.1 [ inl goes ↦ inl (goes.0, subst (λ (d : Database). SparesOthers d new.now) kept.now goes.1) | inr same ↦ inr (same.0, keeps_then old mid new kept same.1) ],
 )
-from_then old mid new world request ended (Err fault) kept runs = (runs.0, runs.1, most_then ended old mid new world request kept.left runs.2)
+from_then old mid new world request ended (Err fault) kept runs = (runs.0, runs.1, most_then ended old mid new world request kept runs.2)
 
 -- ---- whether the connection is open
 

@@ -26,7 +26,7 @@ back_undone old new undone = record { was_open = undone.was_open; now = λ is_op
 pub upgrades_then : {T : Type 0} (old mid new : State) (world : World) (r : Result T (Fault × Bool)) → KeepsAll old mid → UpgradesFrom mid world new r → UpgradesFrom old world new r
 upgrades_then old mid new world (Ok x) kept (inl goes) = inl (goes.0, subst (λ (d : Database). SparesOthers d new.now) kept.now goes.1)
 upgrades_then old mid new world (Ok x) kept (inr same) = inr (same.0, keeps_then old mid new kept same.1)
-upgrades_then old mid new world (Err refusal) kept runs = (runs.0, runs.1, most_then refusal.1 old mid new world AskUpgrade kept.left runs.2)
+upgrades_then old mid new world (Err refusal) kept runs = (runs.0, runs.1, most_then refusal.1 old mid new world AskUpgrade kept runs.2)
 
 pub survives_same : (s : State) (P : Trees → Type 0) → Survives s s P
 survives_same s P = record { clean = omega arith; shield = λ h. h; counts = omega arith; limit = refl; closes = λ _ still. inl still; crash = λ _ db h. inl h }

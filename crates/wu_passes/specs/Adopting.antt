@@ -112,6 +112,18 @@ pub record StoresLater (s : State) (version : ℕ) : Type 0 where
 abbrev pub IsRefusalOf : ℕ → Fault → Type 0
 IsRefusalOf version fault = IsFailure fault ⊎ TellsLater version fault
 
+-- The version is that of the project's one row, and this program knows it.
+abbrev pub IsKnownRow : Database → ℕ → Type 0
+IsKnownRow db version = ((has : HasProject db.schema) → HasVersion db has version) × (version ≤ present_version)
+
+-- Why no version that this program knows was found, with this limit on steps.
+pub record RefusesRow (limit : Option ℕ) (db : Database) (fault : Fault) : Type 0 where
+  -- A later version is reported only if it is that of the project's one row.
+  pub later : (version : ℕ) → fault ≡ NewSchema version → ((has : HasProject db.schema) → HasVersion db has version) × (present_version < version)
+  -- Over the one row of a project, without a limit on steps, the fault refuses its version as later, or is `Memory` or
+  -- `Broken`.
+  pub only : limit ≡ None → (has : HasProject db.schema) (version : ℕ) → HasVersion db has version → IsRefusalOf version fault
+
 -- The disk failed between the two states, or the connection was not open.
 abbrev pub BreaksBetween : State → State → Type 0
 BreaksBetween old new = MoreFaults old.faults new.faults ⊎ (old.is_open ≡ false)

@@ -9,7 +9,7 @@ use Rattle.wu_machine.specs.Commands.{reply_of_answer}
 use Rattle.wu_machine.specs.Machine.{reply, step}
 use Rattle.wu_machine.specs.Requests.{Request}
 use Rattle.wu_passes.specs.Adopting.{KeepsAll, LeavesNoMore}
-use Rattle.wu_passes.specs.Committing.{FoundAs}
+use Rattle.wu_passes.specs.Committing.{FoundSparing}
 use Rattle.wu_passes.specs.Standing.{GoesOn, ShowsWorld}
 use Rattle.wu_schema.specs.Others.{SparesOthers}
 use Rattle.wu_store.specs.Loading.{IsStoreFault}
@@ -21,11 +21,11 @@ LeavesStepAlone old new world request =
     (GoesOn new (step world request) × SparesOthers old.now new.now) ⊎ ((step world request ≡ world) × KeepsAll old new)
 
 -- The command is not done: a crash leaves no more than it could before. If the session ended, it may also leave the
--- machine's step.
+-- machine's step, and the tables of other programs stay with it.
 abbrev pub LeavesAtMost : Bool → State → State → World → Request → Type 0
 LeavesAtMost false old new world request = LeavesNoMore old new
 LeavesAtMost true old new world request =
-    (db : Trees) → new.may_leave db → old.may_leave db ⊎ FoundAs db (step world request)
+    (db : Trees) → new.may_leave db → old.may_leave db ⊎ FoundSparing old.now db (step world request)
 
 -- The command is done with the machine's reply; or it is not done, and the tables represent the same world.
 abbrev pub RunsFrom : State → World → Request → Bool → State → Result Answer Fault → Type 0

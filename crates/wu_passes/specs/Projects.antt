@@ -262,9 +262,6 @@ pub record AnswersFirst {S T : Type 0} {g : Ghosts S} (old new : Project S g) (r
   pub ended : IsSessionEnded old → AnswersEnded old new result
   pub older : IsSessionOpen old → AnswersOlder old new result
 
-abbrev pub WasOpenBefore : {S T E : Type 0} {g : Ghosts S} → Project S g → Project S g → Result T E → Type 0
-WasOpenBefore old new result = HasCleanDisk (state_of new) → OnOk result (IsTrue (state_of old).is_open)
-
 -- A question of a project, within its session. After the end of the session the answer is `Ended`, and over an older
 -- version `OldSchema`; nothing is touched then (`early`). Only `Broken` ends the session (`session`), and it only reads
 -- (`asks`). Over the present version the connection is open afterwards, except after `Memory` and `Broken` (`opens`), and

@@ -21,7 +21,7 @@ use Rattle.wu_passes.specs.Standing.{ShowsWorld}
 
 -- If it is done, a crash leaves only the same lists at the present version, or all is as it was. If it is not done, the
 -- tables represent the same world while the connection is open. A crash then leaves what it could leave before or, if
--- the transaction had begun, the upgraded tables.
+-- the transaction had begun, the upgraded tables; the tables of other programs stay with these.
 abbrev pub UpgradesFrom : {T : Type 0} → State → World → State → Result T (Fault × Bool) → Type 0
 UpgradesFrom old world new result =
     MatchResult result (λ _. LeavesStepAlone old new world AskUpgrade)

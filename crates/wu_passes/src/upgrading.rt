@@ -59,11 +59,11 @@ pub fn upgrade<S: Alter>(conn: &mut Connection<S>, alloc: Global) -> Result<(), 
     requires { conn.old.in_transaction ≡ false }
     // Afterwards the connection is not inside a transaction.
     ensures mode { conn.new.in_transaction ≡ false }
-    // With Ok the tables represent the same world at the present version, a crash leaves only
-    // these, and the tables of other programs stay, if they have no foreign key. Or they had that
-    // version, and all is as it was. With a fault they represent the same
+    // With Ok the tables represent the same world at the present version, and a crash leaves only
+    // these. Or they had that version, and all is as it was. With a fault they represent the same
     // world while the connection is open. A crash then leaves what it could have left before or, if
-    // the transaction had begun, the upgraded tables.
+    // the transaction had begun, the upgraded tables. Beside upgraded tables those of other
+    // programs stay, if they have no foreign key.
     ensures upgrades { UpgradesEach S.Store conn.old conn.new result }
     // With Ok, a project that had the present version is left as it was: every table, and what a
     // crash may leave.

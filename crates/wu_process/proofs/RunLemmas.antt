@@ -75,9 +75,9 @@ module _ {S W E : Type 0} {c : calls.Ghosts Host} {s : start.Ghosts S} {g : Ghos
   served_so (Err trouble) left ends = (ends.same, record { tells = ends.tells; same = refl })
 
   pub ran_ends : (ran : Ran (Modelled Host S c s) g) → RanFor contents words old new err_old err_mid in_old in_new ran → EndsRan told_of err_mid err_new ran end
-      → (Obeys contents told_of words old new err_old err_new end × (in_new ≡ in_old)) ⊎ HoldsSession contents told_of words old new err_new in_old in_new end
+      → (Obeys contents told_of words old new err_old err_new end × (in_new ≡ in_old)) ⊎ HoldsSession contents told_of words old new err_old err_new in_old in_new end
   ran_ends (ran.Done done left) (runs, kept, unread) ends =
       inl (obeyed contents told_of words old new err_old err_new done left end runs (subst (λ err. EndsSo told_of err err_new done left end) kept ends), unread)
-  ran_ends (ran.Served done left) (path, ordered, runs) ends =
+  ran_ends (ran.Served done left) (path, ordered, runs, silent) ends =
       let it = served_so done left ends in
-      inr (record { path = path; ordered = ordered; done = done; runs = subst (ServesAt contents path old new in_old in_new done) (sym it.0) runs; err_mid = err_mid; ends = it.1 })
+      inr (record { path = path; ordered = ordered; done = done; runs = subst (ServesAt contents path old new in_old in_new done) (sym it.0) runs; err_mid = err_mid; silent = silent; ends = it.1 })

@@ -23,7 +23,7 @@ database_in (order.Export it) = it.db
 database_in (order.Lint it) = []
 database_in (order.Explain topic) = []
 
--- What a line or a script asks for; a check and an explanation ask for no work.
+-- What a line or a script asks for; no other order asks for work.
 abbrev pub AsksOfOrder : Order → Result Work Trouble → Type 0
 AsksOfOrder (order.Line line) asked = AsksOfLine may_hold line asked
 AsksOfOrder (order.Script script) asked = AsksOfScript may_hold script asked

@@ -1,6 +1,6 @@
 -- A backup of a database, from its path to the new file. The files are copied, and the copy is checked and closed, so
 -- that its one file holds the project without a log. Or the project's world is loaded, and a new database filled with it.
-use Rattle.std.specs.Prelude.{◌≡◌, ◌⊎◌, ℕ, List, [], MatchResult, Option, Some, Result, Ok, Err, ⊤}
+use Rattle.std.specs.Prelude.{◌≡◌, ◌⊎◌, ℕ, false, List, [], IfErr, MatchResult, Option, Some, Result, Ok, Err, ⊤}
 use Rattle.sqlite_disk.specs.Memory.{memory_bytes}
 use Rattle.sqlite_disk.specs.declared.Disk.{Ghosts}
 use Rattle.sqlite_disk.specs.declared.Files.{Files}
@@ -12,7 +12,8 @@ use Rattle.sqlite.specs.Store.{Ghosts as StoreGhosts}
 use Rattle.sqlite.specs.declared.error.Error.{Error}
 use Rattle.wu_cli.specs.Backups.{CountsSound}
 use Rattle.wu_cli.specs.Checks.{reason_of_copy}
-use Rattle.wu_cli.specs.declared.backup.Counts.{Counts}
+use Rattle.wu_cli.specs.LogNames.{names_log}
+use Rattle.wu_check.specs.declared.finding.Counts.{Counts}
 use Rattle.wu_cli.specs.declared.backup.Unmade.{Unmade}
 use Rattle.wu_cli.specs.declared.reason.Reason.{Reason}
 use Rattle.wu_cli.specs.declared.trouble.Trouble.{Trouble}
@@ -23,6 +24,7 @@ use Rattle.wu_refill.specs.Loading.{FindsAlone}
 use Rattle.wu_refill.specs.Making.{MakesFilled}
 use Rattle.wu_schema.specs.Asking.{Asks}
 use Rattle.wu_schema.specs.Calls.{Commits}
+use Rattle.wu_schema.specs.Faults.{IsStoreFault}
 use Rattle.wu_process.specs.Checks.{IsOpenedIn, IsUnopenedIn}
 use Rattle.wu_process.specs.Closing.{IsClosedInto, IsLeftUnclosed}
 use Rattle.wu_process.specs.Copies.{AreCopiedFrom, memory_disk}
@@ -38,6 +40,7 @@ may_become path bytes = ⊤
 pub record LoadsWorld {S : Type 0} (g : StoreGhosts S) (old new : Held S) (its : Counts) (done : Result Checked Trouble) : Type 0 where
   pub world : Result (Option World) Fault
   pub asks : Asks g old new world
+  pub fault : IfErr world IsStoreFault
   pub found : FindsAlone g old new world
   pub gives : MatchResult world (λ it. done ≡ Ok (record { counts = its; world = it })) (λ fault. done ≡ Err (trouble.Fault fault))
 
@@ -111,8 +114,9 @@ module _ (makes : List ℕ → List ℕ → Type 0) where
   EndsBackup to (Err told) made = made ≡ Err told
 
   -- These bytes were read of the files at the path. A copy with exactly these bytes is checked and closed, and becomes
-  -- the new file.
+  -- the new file, whose path names no log.
   pub record MakesOfCopy (path to : List ℕ) (made : Result Counts Trouble) : Type 0 where
+    pub own_name : names_log to ≡ false
     pub files : Files Memory
     pub copy : AreCopiedFrom path files
     pub folded : Result (Folded Memory) Trouble

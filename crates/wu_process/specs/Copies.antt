@@ -17,7 +17,7 @@ pub record AreCopiesOf (bytes : FileBytes) (files : Files Memory) : Type 0 where
   pub log : IsCopyOf bytes.log.items files.log
   pub db : IsCopyOf bytes.db.items files.db
 
--- These bytes were read of the two files at this path, and the files in memory have just these bytes.
+-- These bytes carry this path, and the files in memory have just these bytes.
 pub record AreCopiedFrom (path : List ℕ) (files : Files Memory) : Type 0 where
   pub bytes : FileBytes
   pub read_at : bytes.path.now ≡ path

@@ -1,5 +1,5 @@
 -- A session of the program, from its words to what it leaves of the database.
-use Rattle.std.specs.Prelude.{◌≡◌, ℕ, true, List, Option, Some, None, Result, Ok, Err}
+use Rattle.std.specs.Prelude.{◌≡◌, ℕ, true, List, Option, Some, None, Result, Ok, Err, IfErr}
 use Rattle.sqlite_disk.specs.declared.Disk.{Ghosts}
 use Rattle.sqlite_disk.specs.declared.calls.Calls as calls
 use Rattle.sqlite_disk.specs.declared.modelled.Modelled.{Modelled}
@@ -58,7 +58,7 @@ module _ {S W : Type 0} {c : calls.Ghosts Host} {s : start.Ghosts S} {g : Ghosts
   -- What was done for the words of a process. Only a session reads the input, and writes to the second output meanwhile.
   abbrev pub RanFor : {E : Type 0} → List (List ℕ) → W → W → E → E → Option (List ℕ) → Option (List ℕ) → Ran (Modelled Host S c s) g → Type 0
   RanFor words old new err_old err_new in_old in_new (ran.Done done left) = RunsWords contents words old new done left × (err_new ≡ err_old) × (in_new ≡ in_old)
-  RanFor words old new err_old err_new in_old in_new (ran.Served done left) = (path : List ℕ) × IsOrderOf words (order.Session path) × ServesAt path old new in_old in_new done left
+  RanFor words old new err_old err_new in_old in_new (ran.Served done left) = (path : List ℕ) × IsOrderOf words (order.Session path) × ServesAt path old new in_old in_new done left × IfErr done (λ _. err_new ≡ err_old)
 
 module _ {D E : Type 0} {g : Ghosts D} (told_of : E → Option (List ℕ)) where
   -- The session of a process ends with the status that it gave, or with the trouble that kept it from its first line.
@@ -72,11 +72,13 @@ module _ {D E : Type 0} {g : Ghosts D} (told_of : E → Option (List ℕ)) where
   EndsRan err_old err_new (ran.Served done left) end = EndsServed err_old err_new done left end
 
 module _ {S W : Type 0} {c : calls.Ghosts Host} {s : start.Ghosts S} {g : Ghosts (Modelled Host S c s)} (contents : W → Option (List ℕ)) where
-  -- The words ask for a session, and it is held. What clap prints of refused lines goes to the second output before.
-  pub record HoldsSession {E : Type 0} (told_of : E → Option (List ℕ)) (words : List (List ℕ)) (old new : W) (err_new : E) (in_old in_new : Option (List ℕ)) (end : End (Modelled Host S c s) g) : Type 0 where
+  -- The words ask for a session, and it is held. What goes to the second output while lines are answered is not stated.
+  pub record HoldsSession {E : Type 0} (told_of : E → Option (List ℕ)) (words : List (List ℕ)) (old new : W) (err_old err_new : E) (in_old in_new : Option (List ℕ)) (end : End (Modelled Host S c s) g) : Type 0 where
     pub path : List ℕ
     pub ordered : IsOrderOf words (order.Session path)
     pub done : Result ℕ Trouble
     pub runs : ServesAt contents path old new in_old in_new done end.left
     pub err_mid : E
+    -- Where no line was read, nothing went there before the trouble of that.
+    pub silent : IfErr done (λ _. err_mid ≡ err_old)
     pub ends : EndsServed told_of err_mid err_new done end.left end

@@ -1,16 +1,17 @@
 //! A backup of a database: its files are copied into memory, the copy is checked and closed, and becomes a new file.
 
-ghost use Rattle.std.specs.Prelude.{◌≡◌, false, IfOk, IfSome, IsTrue};
+ghost use Rattle.std.specs.Prelude.{◌≡◌, false, IfErr, IfOk, IfSome, IsTrue};
 ghost use Rattle.wu_process.specs.Backups.{BecomesFile, ChecksSound, ClosesFolded, Folds, FoldsFiles, IsFilled, IsFilledInto, IsFilledWith, IsRefillOf, MakesBackup, MakesFile};
 ghost use Rattle.wu_process.specs.Closing.{IsClosedInto};
 ghost use Rattle.wu_refill.specs.Loading.{FindsAlone};
 ghost use Rattle.wu_refill.specs.Refilling.{MayBeRefilled};
 ghost use Rattle.wu_schema.specs.Asking.{Asks};
+ghost use Rattle.wu_schema.specs.Faults.{IsStoreFault};
 
-use crate::check::{open_copy, options};
 use crate::copy::copy_files;
 use crate::header::has_many_free_pages;
 use crate::new_file::{MakeFile, refuse_path};
+use crate::opening::{open_copy, options};
 use sqlite::{Alter, Connection, FileStore, Files, Options};
 use sqlite_disk::{Disk, Memory};
 use std::alloc::Global;
@@ -40,6 +41,7 @@ fn load_if<S: Alter>(
     is_wanted: bool,
 ) -> Result<Option<Loaded>, Fault>
     ensures asks { Asks S.Store conn.old conn.new result }
+    ensures fault { IfErr result IsStoreFault }
     ensures may { IfOk result (λ found. IfSome found MayBeRefilled) }
     ensures found { FindsAlone S.Store conn.old conn.new result }
 {
@@ -229,7 +231,7 @@ pub fn make_backup<F: MakeFile>(
 ) -> Result<Counts, Trouble>
     // The files' bytes are copied, and the copy is a sound project. The new file has the bytes of
     // the copy after its close, which hold the project without a log; or those of a new database
-    // that has its world. Else the trouble is why not.
+    // that has its world. Its path names no log. Else the trouble is why not.
     ensures { MakesBackup (F.MakeFile.makes new_files.now) path.now to.now result }
 {
     if let Err(why) = refuse_path(rt, to) {

@@ -1,8 +1,7 @@
-//! What lies at the path of a database and beside it, which may forbid its opening. No clause can say what files there are.
+//! What lies at the path of a database and beside it. No clause can say what files there are.
 
 ghost use Rattle.std.specs.Prelude.{◌≡◌, IfErr};
 ghost use Rattle.wu_core.specs.declared.fault.Fault.TheVariants.{Memory};
-ghost use Rattle.wu_process.specs.Opening.{IsBar};
 
 use crate::files::HostFiles;
 use crate::header::{LARGEST_SIZE, SHORTEST_LOG, drops_project, has_other_pages};
@@ -10,7 +9,6 @@ use std::alloc::AllocError;
 use std::fs;
 use std::io::ErrorKind;
 use wu_arguments::ReadFile;
-use wu_cli::{Trouble, names_log};
 use wu_core::Fault;
 
 /// The bytes with which each database begins, after its first one.
@@ -184,39 +182,4 @@ pub fn has_foreign_log(rt: &HostRuntime, path: &str) -> Result<bool, Fault>
         Some(&first) => Ok(first != 0),
         None => Ok(false),
     }
-}
-
-/// Returns whether what lies at a path is no file, is a file of something else, was emptied beside its log, or has
-/// something else in the place of its log or its journal. The only fault is `Memory`.
-fn is_barred_at(rt: &HostRuntime, path: &str) -> Result<bool, Fault>
-    // The only fault is `Memory`.
-    ensures { IfErr result (λ fault. fault ≡ Memory) }
-{
-    if is_no_file(rt, path) || has_foreign_log(rt, path)? {
-        return Ok(true);
-    }
-    Ok(is_emptied(rt, path)? || (!has_log(rt, path)? && is_foreign(rt, path)?))
-}
-
-/// Refuses a database that must not be opened, because the opening would destroy or make files that are not its own.
-///
-/// So it is where the path names a log, and where a log or a journal has lost its database, or that is empty. So it is,
-/// too, where no file lies at the path, or a file without a log that is no database, and where something else lies in the
-/// place of the log or the journal. Out of memory is reported as `Memory`.
-pub fn bar(rt: &HostRuntime, path: &str) -> Result<(), Trouble>
-    // A refusal is reported as a database that cannot be opened, or as out of memory.
-    ensures { IfErr result IsBar }
-{
-    let is_barred = match fs::canonicalize(rt, path) {
-        Ok(real) => is_barred_at(rt, real.as_str())?,
-        Err(error) if error.kind() == ErrorKind::OutOfMemory => return Err(Trouble::Fault(
-            Fault::Memory,
-        )),
-        // A log without a page is kept too: it was beside a database that may be put back.
-        Err(_) => is_taken_beside(rt, path)?,
-    };
-    if is_barred || names_log(path) {
-        return Err(Trouble::Unopened);
-    }
-    Ok(())
 }

@@ -2,15 +2,15 @@
 
 ghost use Rattle.std.specs.Prelude.{IsTrue};
 ghost use Rattle.wu_cli.specs.Checking.{ChecksOver};
-ghost use Rattle.wu_process.specs.Checks.{ChecksFiles, ChecksPath, DropsChecked, OpensCopy};
+ghost use Rattle.wu_process.specs.Checks.{ChecksFiles, ChecksPath, DropsChecked};
 
 use crate::copy::copy_in_memory;
-use sqlite::{Alter, Connection, FileStore, Files, Options};
+use crate::opening::{open_copy, options};
+use sqlite::{Alter, Connection, Files, Options};
 use sqlite_disk::Disk;
 use std::alloc::Global;
-use std::hash::{BuildHasher, RandomState};
 use std::io::Write;
-use wu_cli::{Reason, Trouble, check_over};
+use wu_cli::{Trouble, check_over};
 
 /// Checks an open database, as `check_over`, and drops it. Nothing is written to its files.
 ///
@@ -24,26 +24,6 @@ fn check_and_drop<S: Alter + Drop, O: Write>(
 {
     let mut conn = conn;
     check_over(alloc, &mut conn, out)
-}
-
-/// Opens the database in two files. If it cannot be opened, the trouble is why.
-pub fn open_copy<D: Disk + Drop>(
-    alloc: Global,
-    files: Files<D>,
-    options: Options,
-) -> Result<Connection<FileStore<D>>, Trouble>
-    // The log can be used.
-    requires log { IsTrue (D.Disk.is_usable files.log) }
-    // The file of the database can be used.
-    requires db { IsTrue (D.Disk.is_usable files.db) }
-    // It is a new connection to the database in the files. Or that cannot be opened, and the reason
-    // is reported.
-    ensures { OpensCopy D.Disk files result }
-{
-    match Connection::open_files(alloc, files, options) {
-        Ok(conn) => Ok(conn),
-        Err((error, _left)) => Err(Trouble::Unchecked(Reason::of_copy(&error))),
-    }
 }
 
 /// Opens the database in two files, and checks it. If it cannot be opened, the trouble is why, and nothing goes out.
@@ -61,15 +41,6 @@ fn check_files<D: Disk + Drop, O: Write>(
         Ok(conn) => check_and_drop(alloc, conn, out),
         Err(trouble) => Err(trouble),
     }
-}
-
-/// Returns options with a seed of this run.
-pub fn options(rt: &HostRuntime) -> Options {
-    let seed = match RandomState::new(rt) {
-        Ok(state) => state.hash_one(&0u8),
-        Err(_) => 0,
-    };
-    Options::new(seed)
 }
 
 /// Checks a copy of the database at the path. If its files cannot be read or copied, the trouble is why, and nothing

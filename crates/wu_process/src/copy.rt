@@ -4,9 +4,7 @@ ghost use Rattle.std.specs.Prelude.{◌≡◌, IfErr, IfOk};
 ghost use Rattle.wu_cli.specs.declared.reason.Reason.TheVariants.{Memory as WantsMemory};
 ghost use Rattle.wu_process.specs.Copies.{AreCopiedFrom, AreCopiesOf, IsCopyOf};
 
-use crate::beside::{
-    has_content_beside, has_foreign_log, has_linked_log, has_log, is_emptied, is_foreign,
-};
+use crate::barring::{refuse_present, why_not_found};
 use crate::header::refuse_other_kind;
 use sqlite::{FileFrom, Files};
 use sqlite_disk::{Disk, Memory, Wary};
@@ -16,7 +14,7 @@ use std::fs;
 use std::io::{self, ErrorKind};
 use std::os::unix::fs::MetadataExt;
 use std::time::SystemTime;
-use wu_cli::{Reason, names_log};
+use wu_cli::Reason;
 
 /// The bytes of the files of a database.
 #[derive(Drop)]
@@ -68,7 +66,7 @@ fn bytes_if_any(rt: &HostRuntime, path: &str) -> io::Result<Vec<u8>> {
 
 /// Refuses a database with a rollback journal that begins with anything but a zero: only SQLite can roll it back.
 fn refuse_journal(rt: &HostRuntime, path: &str) -> Result<(), Reason> {
-    let journal = format!(in rt.alloc(); "{path}-journal").map_err(|_| Reason::Memory)?;
+    let journal = format!(in rt.alloc(); "{path}-journal")?;
     match bytes_if_any(rt, journal.as_str()) {
         Ok(bytes) if bytes.is_empty() || bytes[0] == 0 => Ok(()),
         Ok(_) => Err(Reason::Journal),
@@ -126,61 +124,6 @@ fn read_at_once<'a>(
     }
 }
 
-/// Refuses the name of a log, and a link, or something else, in the place of a log or a journal.
-fn refuse_beside(rt: &HostRuntime, path: &str) -> Result<(), Reason> {
-    if names_log(path) {
-        return Err(Reason::LogName);
-    }
-    if has_linked_log(rt, path).map_err(|_| Reason::Memory)? {
-        return Err(Reason::LinkedLog);
-    }
-    if has_foreign_log(rt, path).map_err(|_| Reason::Memory)? {
-        return Err(Reason::ForeignLog);
-    }
-    Ok(())
-}
-
-/// Returns why no file lies at a path: where its log is there, the database has gone without it.
-fn why_no_file(rt: &HostRuntime, path: &str) -> Reason {
-    match (refuse_beside(rt, path), has_content_beside(rt, path)) {
-        (Err(reason), _) => reason,
-        (Ok(()), Ok(true)) => Reason::LogAlone,
-        (Ok(()), Ok(false)) => Reason::NoFile,
-        (Ok(()), Err(_)) => Reason::Memory,
-    }
-}
-
-/// Returns why a path leads to no file.
-fn why_not_found(rt: &HostRuntime, path: &str, error: &io::Error) -> Reason {
-    match error.kind() {
-        ErrorKind::NotFound => why_no_file(rt, path),
-        _ => Reason::of_file(error),
-    }
-}
-
-/// Refuses a file without a log that begins as no database does, before more of it is read; one that was emptied beside
-/// its log; and what `refuse_beside` refuses.
-fn refuse_foreign(rt: &HostRuntime, path: &str) -> Result<(), Reason> {
-    refuse_beside(rt, path)?;
-    if is_emptied(rt, path).map_err(|_| Reason::Memory)? {
-        return Err(Reason::LogAlone);
-    }
-    let is_alone = !has_log(rt, path).map_err(|_| Reason::Memory)?;
-    if is_alone && is_foreign(rt, path).map_err(|_| Reason::Memory)? {
-        return Err(Reason::NoDatabase);
-    }
-    Ok(())
-}
-
-/// Returns why the database at the path must not be opened, as far as what lies there and beside it shows; `None` if that
-/// shows nothing.
-pub fn why_barred(rt: &HostRuntime, path: &str) -> Option<Reason> {
-    match fs::canonicalize(rt, path) {
-        Ok(real) => refuse_foreign(rt, real.as_str()).err(),
-        Err(error) => Some(why_not_found(rt, path, &error)),
-    }
-}
-
 /// Reads the bytes of the database at the path and of its log, as they are at one moment. A file that another program
 /// writes to meanwhile is in use. The log lies beside the file to which a link leads.
 fn read_database<'a>(rt: &HostRuntime, path: &'a str) -> Result<FileBytes<'a>, Reason>
@@ -188,8 +131,8 @@ fn read_database<'a>(rt: &HostRuntime, path: &'a str) -> Result<FileBytes<'a>, R
     ensures { IfOk result (λ bytes. bytes.path.now ≡ path.now) }
 {
     let real = fs::canonicalize(rt, path).map_err(|error| why_not_found(rt, path, &error))?;
-    let log = format!(in rt.alloc(); "{}-wal", real.as_str()).map_err(|_| Reason::Memory)?;
-    refuse_foreign(rt, real.as_str())?;
+    let log = format!(in rt.alloc(); "{}-wal", real.as_str())?;
+    refuse_present(rt, real.as_str())?;
     let bytes = read_at_once(rt, path, real.as_str(), log.as_str())?;
     refuse_other_kind(&bytes.log, &bytes.db)?;
     Ok(bytes)
@@ -202,7 +145,7 @@ fn read_while_open<'a>(rt: &HostRuntime, path: &'a str) -> Result<FileBytes<'a>,
     ensures { IfOk result (λ bytes. bytes.path.now ≡ path.now) }
 {
     let real = fs::canonicalize(rt, path).map_err(|error| Reason::of_file(&error))?;
-    let log = format!(in rt.alloc(); "{}-wal", real.as_str()).map_err(|_| Reason::Memory)?;
+    let log = format!(in rt.alloc(); "{}-wal", real.as_str())?;
     read_both(rt, path, real.as_str(), log.as_str())
 }
 
@@ -235,7 +178,7 @@ fn files_in_memory(alloc: Global, bytes: &FileBytes<'_>) -> Result<Files<Memory>
 
 /// Copies the two files of the database at the path into memory, as they are at one moment. The copies alone are kept.
 pub fn copy_in_memory(rt: &HostRuntime, path: &str) -> Result<Files<Memory>, Reason>
-    // Both files in memory have just the bytes that were read of the files at this path.
+    // The files in memory have just the bytes that were read, and these carry the path.
     ensures { IfOk result (AreCopiedFrom path.now) }
 {
     let bytes = read_database(rt, path)?;
@@ -244,7 +187,7 @@ pub fn copy_in_memory(rt: &HostRuntime, path: &str) -> Result<Files<Memory>, Rea
 
 /// Copies the two files of the database at the path, which this process has open, into memory. The copies alone are kept.
 fn copy_while_open(rt: &HostRuntime, path: &str) -> Result<Files<Memory>, Reason>
-    // Both files in memory have just the bytes that were read of the files at this path.
+    // The files in memory have just the bytes that were read, and these carry the path.
     ensures { IfOk result (AreCopiedFrom path.now) }
 {
     let bytes = read_while_open(rt, path)?;
@@ -253,7 +196,7 @@ fn copy_while_open(rt: &HostRuntime, path: &str) -> Result<Files<Memory>, Reason
 
 /// Copies the files of the database at the path: of one that this process has open, or of one that no other writes to.
 pub fn copy_files(rt: &HostRuntime, path: &str, is_open: bool) -> Result<Files<Memory>, Reason>
-    // Both files in memory have just the bytes that were read of the files at this path.
+    // The files in memory have just the bytes that were read, and these carry the path.
     ensures { IfOk result (AreCopiedFrom path.now) }
 {
     if is_open {

@@ -1,10 +1,11 @@
 //! The database that words name: it is opened, the work done over it, and it is closed.
 
+ghost use Rattle.std.specs.Prelude.{◌≡◌, IfErr};
 ghost use Rattle.wu_process.specs.Closing.{IsLeftByClose};
 ghost use Rattle.wu_process.specs.Running.{ExportsIfDone, OpensAndDoes, RunsWork};
 ghost use Rattle.wu_process.specs.Serving.{OpensAndServes, ServesAt};
 
-use crate::beside::bar;
+use crate::barring::bar;
 use crate::files::HostFiles;
 use crate::opening::{MOST_PAGES, open_at, pages_for};
 use sqlite::{Connection, Error, FileFrom, FileStore, Files, Leftover, Start};
@@ -97,9 +98,10 @@ pub fn open_and_perform<S: Start, O: Write>(
     start: S,
     out: &mut O,
 ) -> (Result<(), Trouble>, Option<LeftDatabase<FileFrom<S>>>)
-    // The database of this path is opened, its work is done and written, and it is closed. Then the
-    // exports of the work are made, if all else was done. Or it cannot be opened, which is reported,
-    // and nothing goes out. If `asked` is a trouble, that is returned, and nothing is opened.
+    // A database is opened, its work is done and written, and it is closed; the path names no log.
+    // Then the exports of the work are made, if all else was done. Or it cannot be opened, which is
+    // reported, and nothing goes out. If `asked` is a trouble, that is returned, and nothing is
+    // opened.
     ensures { RunsWork O.contents database.now asked out.old out.new result.0 result.1 }
 {
     match asked {
@@ -126,8 +128,10 @@ fn open_and_serve<S: Start, R: BufRead, O: Write, E: Write>(
 ) -> (Result<u8, Trouble>, LeftDatabase<FileFrom<S>>)
     // The lines are answered over the opened database, which is then closed; or nothing is opened, and
     // that is reported.
-    ensures { OpensAndServes O.contents path.now out.old out.new
+    ensures serves { OpensAndServes O.contents path.now out.old out.new
         (R.remaining input.old) (R.remaining input.new) result.0 result.1 }
+    // Where no line is read, nothing is written on standard error.
+    ensures silent { IfErr result.0 (λ _. err.new ≡ err.old) }
 {
     let files = HostFiles::new(rt);
     match open_at(rt, path, start, MOST_PAGES) {
@@ -152,10 +156,12 @@ pub fn hold_session<S: Start, R: BufRead, O: Write, E: Write>(
     out: &mut O,
     err: &mut E,
 ) -> (Result<u8, Trouble>, Option<LeftDatabase<FileFrom<S>>>)
-    // The database of this path is opened, the lines are answered over it, and it is closed. Or it is
-    // not opened, which is reported, no line is read, and nothing goes out.
-    ensures { ServesAt O.contents path.now out.old out.new
+    // A database is opened, the lines are answered over it, and it is closed; the path names no log.
+    // Or it is not opened, which is reported, no line is read, and nothing goes out.
+    ensures serves { ServesAt O.contents path.now out.old out.new
         (R.remaining input.old) (R.remaining input.new) result.0 result.1 }
+    // Where no line is read, nothing is written on standard error.
+    ensures silent { IfErr result.0 (λ _. err.new ≡ err.old) }
 {
     match bar(rt, path) {
         Ok(()) => {

@@ -142,7 +142,7 @@ pub fn drops_project(log: &[u8], db: &[u8]) -> bool {
 pub fn has_many_free_pages(log: &[u8], db: &[u8]) -> bool {
     let page = first_page(log, db);
     match (number_at(page, FREE_PAGES), number_at(page, PAGES)) {
-        (Some(free), Some(pages)) => free > 0 && free >= pages / 4,
+        (Some(free), Some(pages)) => free > 0 && u64::from(free) * 4 >= u64::from(pages),
         _ => false,
     }
 }

@@ -1,7 +1,7 @@
 //! What a terminal shows beside the answers: that a database was made, or why it cannot be opened, that an import came
 //! before, and that a template lets no job succeed. No clause speaks of it.
 
-use crate::copy::why_barred;
+use crate::barring::why_barred;
 use crate::database::LeftDatabase;
 use crate::expected::{Expected, expected_of};
 use crate::files::HostFiles;
@@ -57,16 +57,11 @@ fn is_unopened<D: Disk>(status: u8, left: &Option<LeftDatabase<D>>) -> bool {
     }
 }
 
-/// How a check begins the line that says why a database cannot be opened.
-const UNOPENED: &str = "cannot open the database: ";
-
 /// Shows why the database at the path cannot be opened, or that a check names the cause.
 fn tell_why<E: Write>(rt: &HostRuntime, path: &str, err: &mut E) {
     match why_barred(rt, path) {
         Some(reason) => {
-            let line = reason.line();
-            let why = line.strip_prefix(UNOPENED).unwrap_or(line);
-            let _ = err.write_all(why.as_bytes());
+            let _ = writeln!(err, "{}", reason.words());
         }
         None => {
             let _ = writeln!(err, "lintelthyme check --db {path} names the cause");

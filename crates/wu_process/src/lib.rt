@@ -12,6 +12,7 @@ ghost use Rattle.wu_process.specs.Serving.{EndsRan, EndsServed, RanFor};
 ghost use Rattle.wu_process.specs.Processes.{Demonstrates, EndsAsRun, RunsProcess};
 
 mod backup;
+mod barring;
 mod beside;
 mod check;
 mod copy;
@@ -187,9 +188,9 @@ pub fn run_with<S: sqlite::Start, R: BufRead, O: Write, E: Write>(
     err: &mut E,
 ) -> End<FileFrom<S>>
     // Without a word after the program's name the demonstration runs: with status 0 all of it went
-    // out, and nothing goes to `err`. Otherwise what the words ask for is done up to the first
+    // out, else the status is 1, and nothing goes to `err`. Otherwise what the words ask for is done up to the first
     // trouble, which is reported with its status. Words that cannot be read are reported as no
-    // UTF-8 text, or as out of memory, and nothing goes out.
+    // UTF-8 text, or as out of memory, and nothing goes out. Only work opens a database.
     ensures { RunsProcess O.contents E.contents out.old out.new err.old err.new
         (R.remaining input.old) (R.remaining input.new) result words }
 {

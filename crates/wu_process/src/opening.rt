@@ -1,19 +1,22 @@
-//! How the two files of a database are opened, and how many of its pages are kept in memory.
+//! How the two files of a database, or a copy of them, are opened, and how many of its pages are kept in memory.
 
 ghost use Rattle.std.specs.Prelude.{codes, ◌≡◌, ◌≤◌, true, false, IsTrue, IfOk, IfErr};
 ghost use Rattle.sqlite_std_file.specs.File.{file_is_usable, IsFresh};
 ghost use Rattle.sqlite_wal.specs.Files.{image_at};
 ghost use Rattle.sqlite.specs.Opening.{is_open_error};
 ghost use Rattle.wu_cli.specs.LogNames.{names_log};
+ghost use Rattle.wu_process.specs.Checks.{OpensCopy};
 ghost use Rattle.wu_process.specs.Opening.{in_memory, IsEarly, IsOpenedAt, IsUnopened};
 
 use crate::beside::{may_have_log, take_log_back};
-use crate::check::options;
-use sqlite::{Connection, Error, ErrorCode, FileFrom, FileStore, Files, Leftover, Start};
+use sqlite::{Connection, Error, ErrorCode, FileFrom, FileStore, Files, Leftover, Options, Start};
+use sqlite_disk::Disk;
 use sqlite_std_file::OpenError;
+use std::alloc::Global;
 use std::fs;
+use std::hash::{BuildHasher, RandomState};
 use std::io::ErrorKind;
-use wu_cli::{Work, names_log};
+use wu_cli::{Reason, Trouble, Work, names_log};
 
 /// The fewest and the most pages that are kept in memory. A page of a new database has 4,096 bytes.
 const FEWEST_PAGES: usize = 64;
@@ -82,12 +85,22 @@ fn open_pair<S: Start>(rt: &HostRuntime, path: &str, start: S) -> Result<Files<F
     }
 }
 
+/// Returns options with a seed of this run.
+pub fn options(rt: &HostRuntime) -> Options {
+    let seed = match RandomState::new(rt) {
+        Ok(state) => state.hash_one(&0u8),
+        Err(_) => 0,
+    };
+    Options::new(seed)
+}
+
 /// Opens the database at a path, and keeps so many of its pages in memory. A missing file is made. An error comes with
 /// what is left of the files, once they were opened; a log that was made is taken back then.
 ///
 /// It is `Connection::open_from`, which always keeps 2,000 pages.
 pub fn open_at<S: Start>(rt: &HostRuntime, path: &str, start: S, pages: usize) -> Opened<S>
-    // The database of this path is opened, over two files that held what the start says.
+    // A database is opened, over two files that held what the start says. The path names neither a
+    // log nor a database in memory.
     ensures opened { IfOk result (IsOpenedAt path.now (image_at S.Start)) }
     // Or it is not, for this error, which leaves this of the files.
     ensures unopened { IfErr result (λ why. IsUnopened path.now why.0 why.1) }
@@ -105,5 +118,25 @@ pub fn open_at<S: Start>(rt: &HostRuntime, path: &str, start: S, pages: usize) -
             take_log_back(rt, path, had_log);
             Err((error, Some(left)))
         }
+    }
+}
+
+/// Opens the database in two files. If it cannot be opened, the trouble is why.
+pub fn open_copy<D: Disk + Drop>(
+    alloc: Global,
+    files: Files<D>,
+    options: Options,
+) -> Result<Connection<FileStore<D>>, Trouble>
+    // The log can be used.
+    requires log { IsTrue (D.Disk.is_usable files.log) }
+    // The file of the database can be used.
+    requires db { IsTrue (D.Disk.is_usable files.db) }
+    // It is a new connection to the database in the files. Or that cannot be opened, and the reason
+    // is reported.
+    ensures { OpensCopy D.Disk files result }
+{
+    match Connection::open_files(alloc, files, options) {
+        Ok(conn) => Ok(conn),
+        Err((error, _left)) => Err(Trouble::Unchecked(Reason::of_copy(&error))),
     }
 }

@@ -6,9 +6,9 @@ ghost use Rattle.wu_process.specs.Backups.{may_become};
 ghost use Rattle.wu_process.specs.Outputs.{DropsKept, KeepsFiles, KeepsOfPath};
 
 use crate::beside::is_no_file;
-use crate::check::{open_copy, options};
 use crate::copy::copy_files;
 use crate::files::HostFiles;
+use crate::opening::{open_copy, options};
 use sqlite::{Alter, Connection, Files, Options};
 use sqlite_disk::Disk;
 use std::alloc::Global;

@@ -273,17 +273,26 @@ pub struct Watched<O: Drop, T: Drop> {
 
 impl<O: Write + Drop, T: Write + Drop> Watched<O, T> {
     /// Makes a writer of this output, with this progress line.
-    pub fn new(out: O, signs: Signs<T>) -> Self {
+    pub fn new(out: O, signs: Signs<T>) -> Self
+        // Nothing is written on the output.
+        ensures { result.out ≡ out }
+    {
         Watched { out, signs }
     }
 
     /// Shows that work begins.
-    pub fn begin(&mut self) {
+    pub fn begin(&mut self)
+        // Nothing is written on the output.
+        ensures { self.new.out ≡ self.old.out }
+    {
         self.signs.tell();
     }
 
     /// Wipes what is shown, and says where to read on if rows were skipped.
-    pub fn end(&mut self) {
+    pub fn end(&mut self)
+        // Nothing is written on the output.
+        ensures { self.new.out ≡ self.old.out }
+    {
         self.signs.finish();
     }
 }

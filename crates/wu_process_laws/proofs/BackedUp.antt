@@ -11,20 +11,20 @@ use Rattle.sqlite_store.specs.declared.store.FileStore.{FileStore}
 use Rattle.sqlite.specs.Effect.{Database, IsDatabase}
 use Rattle.sqlite.specs.Files.{AreFoundIn, file_state, HoldsDatabase, image_of, over_files}
 use Rattle.sqlite.specs.Held.{Held}
-use Rattle.wu_check.specs.Findings.{IsSoundAs, SaysSound}
+use Rattle.wu_check.specs.Findings.{IsSoundAs}
 use Rattle.wu_check.specs.declared.finding.Verdict.{Verdict}
 use Rattle.wu_check.specs.declared.finding.Verdict.TheVariants as verdict
 use Rattle.wu_core.specs.declared.fault.Fault.{Fault}
 use Rattle.wu_core.specs.World.{World}
 use Rattle.wu_lives.specs.Runs.{HoldsWorld}
 use Rattle.wu_passes.specs.Committing.{FoundAs}
-use Rattle.wu_refill.specs.Loading.{IsAlone}
+use Rattle.wu_tables.specs.Others.{HasOnlyAProject}
 use Rattle.wu_schema.specs.Asking.{Asks, IsAsBefore}
 use Rattle.wu_schema.specs.Refines.{Refines}
 use Rattle.wu_stops.proofs.StoppingLemmas.{stands_still}
 use Rattle.wu_store.specs.StandsFor.{StandsFor}
 use Rattle.wu_cli.specs.Backups.{AreOfVerdict, CountsSound}
-use Rattle.wu_cli.specs.declared.backup.Counts.{Counts}
+use Rattle.wu_check.specs.declared.finding.Counts.{Counts}
 use Rattle.wu_cli.specs.declared.trouble.Trouble.{Trouble}
 use Rattle.wu_cli.specs.declared.trouble.Trouble.TheVariants as trouble
 use Rattle.wu_process.specs.Backups.{BecomesFile, ClosesFolded, Folds, IsFilledWith, LoadsWorld, may_become}
@@ -35,22 +35,14 @@ use Rattle.wu_process.specs.declared.backup.Checked.{Checked}
 use Rattle.wu_process.specs.declared.backup.Folded.{Folded}
 use Rattle.wu_process_laws.specs.BackedUp.{EachBackupHolds, HasNoOthers, HoldsTables, IsBackupOf, without_log}
 use Rattle.wu_process_laws.specs.Checked.{FindsWith, image_of_bytes}
-use Rattle.wu_process_laws.proofs.Checked.{found_in_order, memory_clean}
+use Rattle.wu_process_laws.proofs.Checked.{found_in_order, memory_clean, sound_counts}
 use Rattle.wu_process_laws.proofs.RefilledLemmas.{stands_again}
 
 -- what holds of an answer that gave numbers
 pub of_counts : (v : Result Verdict Fault) (its : Counts) (A : Type 0) → AreOfVerdict v (Ok its) → OnOk v A → A
-of_counts (Ok (verdict.Sound version workunits results)) its A gives holds = holds
+of_counts (Ok (verdict.Sound counts)) its A gives holds = holds
 of_counts (Ok (verdict.Unsound found)) its A gives holds = absurd cc
 of_counts (Err fault) its A gives holds = absurd cc
-
--- the numbers are those of the verdict
-sound_counts : (v : Result Verdict Fault) (its : Counts) (db : Database) → AreOfVerdict v (Ok its) → IfOk v (SaysSound db) → IsSoundAs db its.version its.workunits its.results
-sound_counts (Ok (verdict.Sound version workunits results)) its db gives says =
-    let same : its ≡ record { version = version; workunits = workunits; results = results } = cc in
-    subst (λ (c : Counts). IsSoundAs db c.version c.workunits c.results) (sym same) says
-sound_counts (Ok (verdict.Unsound found)) its db gives says = absurd cc
-sound_counts (Err fault) its db gives says = absurd cc
 
 -- of two answers that are the same
 same_checked : (a b : Checked) → ◌≡◌ {A = Result Checked Trouble} (Ok a) (Ok b) → a ≡ b
@@ -97,9 +89,9 @@ module _ (files : Files Memory) (conn : Copy) (opened : IsOpenedIn files conn) w
 
   module _ (mid : Copy) (its : Counts) (checks : CountsSound over_files conn mid (Ok its)) where
     pub kept : IsAsBefore over_files conn mid
-    kept = of_counts checks.verdict its _ checks.gives (checks.asks.answered (memory_clean mid))
+    kept = of_counts checks.verdict its _ checks.gives (checks.checks.asks.answered (memory_clean mid))
 
-    pub sound : FindsWith image (λ db. IsSoundAs db its.version its.workunits its.results)
+    pub sound : FindsWith image (λ db. IsSoundAs db its)
     sound =
         let db = (file_state conn).now in
         let opens = opened.opens (memory_clean conn) in
@@ -108,7 +100,7 @@ module _ (files : Files Memory) (conn : Copy) (opened : IsOpenedIn files conn) w
           db = db;
           found = found_image;
           sound = right;
-          holds = λ whole. sound_counts checks.verdict its db checks.gives (checks.sound (memory_clean mid) (record { ordered = found_in_order image db found_image right; whole = whole }));
+          holds = λ whole. sound_counts checks.verdict its db checks.gives (checks.checks.sound (memory_clean mid) (record { ordered = found_in_order image db found_image right; whole = whole }));
         }
 
     -- the world was loaded, or not, and all is as before
@@ -133,15 +125,24 @@ module _ (files : Files Memory) (conn : Copy) (opened : IsOpenedIn files conn) w
           let same = same_committed mid again loaded.3 ∙ same_committed conn mid kept in
           subst (λ (ts : Trees). ∥ HoldsDatabase (without_log (memory_bytes closed.db)) ts ∥₁) (ap (λ (d : Database). d.trees) same ∙ finds.holds db held) copied.seen.alone
 
-      -- a world that was loaded is that of each world of the files
-      alone : (it : World) → checked.world ≡ Some it → (world : World) → HoldsWorld image world → IsAlone (file_state conn).now it
-      alone it is world held =
-          let same = same_now conn mid kept in
-          let stands : Refines (file_state mid).now world = subst (λ (d : Database). Refines d world) (sym same) (found_stands world held).refines in
-          let found : loads.world ≡ Ok (Some it) = loaded.1 ∙ ap Ok (sym (ap (λ (c : Checked). c.world) loaded.2) ∙ is) in
-          let answer : IfOk loads.world (λ o. IfSome o (IsAlone (file_state mid).now)) = loads.found (memory_clean again) world stands in
-          let here : IsAlone (file_state mid).now it = subst (λ (r : Result (Option World) Fault). IfOk r (λ o. IfSome o (IsAlone (file_state mid).now))) found answer in
-          subst (λ (d : Database). IsAlone d it) same here
+      -- if a world was loaded, the files hold nothing of another program, and it is that of each world of them
+      module _ (it : World) (is : checked.world ≡ Some it) where
+        found : loads.world ≡ Ok (Some it)
+        found = loaded.1 ∙ ap Ok (sym (ap (λ (c : Checked). c.world) loaded.2) ∙ is)
+
+        only : HasOnlyAProject (file_state conn).now.schema
+        only =
+            let Only : Database → Result (Option World) Fault → Type 0 = λ d r. IfOk r (λ o. IfSome o (λ _. HasOnlyAProject d.schema)) in
+            let here : HasOnlyAProject (file_state mid).now.schema = subst (Only (file_state mid).now) found (loads.found.only (memory_clean again)) in
+            subst (λ (d : Database). HasOnlyAProject d.schema) (same_now conn mid kept) here
+
+        theirs : (world : World) → HoldsWorld image world → Refines (file_state conn).now it
+        theirs world held =
+            let same = same_now conn mid kept in
+            let Theirs : Result (Option World) Fault → Type 0 = λ r. IfOk r (λ o. IfSome o (Refines (file_state mid).now)) in
+            let stands : Refines (file_state mid).now world = subst (λ (d : Database). Refines d world) (sym same) (found_stands world held).refines in
+            let here : Refines (file_state mid).now it = subst Theirs found (loads.found.theirs (memory_clean again) world stands) in
+            subst (λ (d : Database). Refines d it) same here
 
       -- and new files with it hold each of these worlds
       module _ (new : Files Memory) (it : World) (is : checked.world ≡ Some it) (filled : IsFilledWith it new) where
@@ -150,15 +151,15 @@ module _ (files : Files Memory) (conn : Copy) (opened : IsOpenedIn files conn) w
             let last = filled.fills.again in
             let done = filled.fills.fills (memory_clean last) in
             let copied = filled.fills.closed.copied refl in
-            let stands = stands_again (file_state conn).now (file_state last).now it world (alone it is world held).stands (found_stands world held).refines done.makes.stands in
+            let stands = stands_again (file_state conn).now (file_state last).now it world (theirs it is world held) (found_stands world held).refines done.makes.stands in
             ∥∥₁_elim copied.seen.alone squash₁ (λ holds. ∣ record {
               trees = (file_state last).committed.trees;
               holds = holds;
               found = record { database = (file_state last).now; same = ap (λ (d : Database). d.trees) (sym done.committed); stands = stands };
             } ∣₁)
 
-        no_others : (world : World) → HoldsWorld image world → HasNoOthers image
-        no_others world held = record { db = (file_state conn).now; found = found_image; only = (alone it is world held).only }
+        no_others : HasNoOthers image
+        no_others = record { db = (file_state conn).now; found = found_image; only = only it is }
 
   -- tables that are all there are those of each world
   held_by_tables : (bytes : List ℕ) → HoldsTables image bytes → (world : World) → HoldsWorld image world → ∥ HoldsWorld (without_log bytes) world ∥₁
@@ -169,7 +170,7 @@ module _ (files : Files Memory) (conn : Copy) (opened : IsOpenedIn files conn) w
         → IsBackupOf image (memory_bytes file.files.db) counts
     backup_closed mid again its checks checked loads closes =
         let numbers : its ≡ counts = sym (its_counts mid its checks again checked loads) ∙ sym (ap (λ (c : Checked). c.counts) closes.0) ∙ sym file.makes_file.1 in
-        let right = subst (λ (c : Counts). FindsWith image (λ db. IsSoundAs db c.version c.workunits c.results)) numbers (sound mid its checks) in
+        let right = subst (λ (c : Counts). FindsWith image (λ db. IsSoundAs db c)) numbers (sound mid its checks) in
         elim file.source [
           | inl same ↦
               let tables = subst (λ (f : Files Memory). HoldsTables image (memory_bytes f.db)) (sym same) (holds_tables mid its checks again checked loads folded.files closes.1) in

@@ -1,7 +1,7 @@
 -- From what a check did to what it told of the files.
 use Rattle.std.proofs.Common.{◌≡◌, ◌⊎◌, ℕ, ◌==◌, true, false, Bool, List, filter, if◌then◌else◌, None, Option, Result, Ok, Err, inl, inr, refl, sym, ap, subst, ◌∙◌}
 use Rattle.std.proofs.Math.Logic.{∥∥₁_elim}
-use Rattle.std.specs.Prelude.{IfErr, IfOk, MatchResult, IsOkUnless}
+use Rattle.std.specs.Prelude.{IfErr, IfOk, IsOkUnless}
 use Rattle.sqlite_disk.specs.declared.Files.{Files}
 use Rattle.sqlite_disk.specs.declared.memory.Memory.{Memory}
 use Rattle.sqlite_disk.specs.declared.tally.Tally.{Tally}
@@ -33,7 +33,8 @@ use Rattle.sqlite.specs.declared.file.Leftover.TheVariants as left
 use Rattle.wu_schema.proofs.Words.{Has, all_has}
 use Rattle.wu_core.specs.World.{World}
 use Rattle.wu_check.specs.Checking.{HasWholeRows, IsInOrder, IsKept, IsSoundProject}
-use Rattle.wu_check.specs.Findings.{PutsLaterFirst, SaysLater, SaysSound, SaysUnsound, SaysWhy, Tells}
+use Rattle.wu_check.specs.Findings.{IsSoundAs, SaysLater, SaysSound, SaysUnsound, SaysWhy}
+use Rattle.wu_check.specs.declared.finding.Counts.{Counts}
 use Rattle.wu_check.specs.declared.finding.Finding.{Finding}
 use Rattle.wu_check.specs.declared.finding.Verdict.{Verdict}
 use Rattle.wu_check.specs.declared.finding.Verdict.TheVariants as verdict
@@ -44,13 +45,14 @@ use Rattle.wu_report.specs.Writing.{WritesBytes}
 use Rattle.wu_schema.specs.Faults.{IsFailure}
 use Rattle.wu_stops.proofs.StoppingLemmas.{stands_still}
 use Rattle.wu_store.specs.StandsFor.{StandsFor}
-use Rattle.wu_cli.specs.Checking.{TellsFault, TellsVerdict}
+use Rattle.wu_cli.specs.Backups.{AreOfVerdict}
+use Rattle.wu_cli.specs.Checking.{TellsSound}
 use Rattle.wu_cli.specs.Checks.{reason_of_copy, sound_line}
 use Rattle.wu_cli.specs.declared.trouble.Trouble.{Trouble}
 use Rattle.wu_cli.specs.declared.trouble.Trouble.TheVariants as trouble
 use Rattle.wu_process.specs.Checks.{ChecksOpened, ChecksUnopened}
 use Rattle.wu_process.specs.Copies.{memory_disk}
-use Rattle.wu_process_laws.specs.Checked.{EachCheckIsTrue, FindsSound, FindsWith, image_of_bytes, IsTakenName, IsToldTruly, IsWant, TellsOfFiles}
+use Rattle.wu_process_laws.specs.Checked.{EachCheckIsTrue, ReportsSound, FindsWith, image_of_bytes, IsTakenName, IsToldTruly, IsWant, TellsOfFiles}
 use Rattle.wu_process_laws.proofs.Leaving.{none_beside}
 
 -- ---- order
@@ -80,12 +82,23 @@ left_clean (left.Files files) = refl
 left_clean (left.Unopened files) = clean_is files.pool
 left_clean (left.Store store) = clean_is store.pool
 
+-- ---- what was counted of a verdict
+
+-- the numbers are those of the verdict
+pub sound_counts : (v : Result Verdict Fault) (its : Counts) (db : Database) → AreOfVerdict v (Ok its) → IfOk v (SaysSound db) → IsSoundAs db its
+sound_counts (Ok (verdict.Sound counts)) its db gives says = let same : counts ≡ its = cc in subst (IsSoundAs db) same says
+sound_counts (Ok (verdict.Unsound found)) its db gives says = absurd cc
+sound_counts (Err fault) its db gives says = absurd cc
+
+-- a finding that is reported is that of the verdict
+found_by : (v : Result Verdict Fault) (finding : Finding) (P : Verdict → Type 0) → AreOfVerdict v (Err (trouble.Unsound finding)) → IfOk v P → P (verdict.Unsound finding)
+found_by (Ok (verdict.Sound counts)) finding P gives says = absurd cc
+found_by (Ok (verdict.Unsound found)) finding P gives says = let same : found ≡ finding = cc in subst (λ f. P (verdict.Unsound f)) same says
+found_by (Err fault) finding P gives says = absurd cc
+
 -- ---- a database that was opened
 
 module _ {W : Type 0} (contents : W → Option (List ℕ)) (old new : W) (done : Result (Unit {0}) Trouble) where
-  abbrev Told : Result Verdict Fault → Type 0
-  Told v = MatchResult v (λ it. TellsVerdict contents old new it done) (λ fault. TellsFault old new fault done)
-
   module _ (image : Image) (db : Database) (found : AreFoundIn image db.trees) (sound : IsDatabase db) where
     kept : HasWholeRows db → IsKept db
     kept whole = record { ordered = found_in_order image db found sound; whole = whole }
@@ -93,37 +106,44 @@ module _ {W : Type 0} (contents : W → Option (List ℕ)) (old new : W) (done :
     finds : (P : Database → Type 0) → (IsKept db → P db) → FindsWith image P
     finds P holds = record { db = db; found = found; sound = sound; holds = λ whole. holds (kept whole) }
 
-    sound_from : (v : Result Verdict Fault) → (IsKept db → IfOk v (SaysSound db)) → Told v → done ≡ Ok tt → FindsSound image (contents old) (contents new)
-    sound_from (Ok (verdict.Sound version workunits results)) says tells is = record {
-      version = version;
-      workunits = workunits;
-      results = results;
-      told = subst (λ (r : Result (Unit {0}) Trouble). WritesBytes (contents old) (contents new) (sound_line version workunits results) r) is tells.0;
-      found = finds _ says;
+    sound_from : (v : Result Verdict Fault) (its : Result Counts Trouble) → AreOfVerdict v its → (IsKept db → IfOk v (SaysSound db)) → TellsSound contents old new its done → done ≡ Ok tt → ReportsSound image (contents old) (contents new)
+    sound_from v (Ok counts) gives says tells is = record {
+      counts = counts;
+      told = subst (λ (r : Result (Unit {0}) Trouble). WritesBytes (contents old) (contents new) (sound_line counts) r) is tells.0;
+      found = finds _ (λ k. sound_counts v counts db gives (says k));
     }
-    sound_from (Ok (verdict.Unsound f)) says tells is = absurd (let e = tells.0 in cc)
-    sound_from (Err f) says tells is = absurd (let e = tells.0 in cc)
+    sound_from v (Err told) gives says tells is = absurd (let e = tells.0 in cc)
 
-    why_from : (v : Result Verdict Fault) (limit : Option ℕ) → limit ≡ None → (IsKept db → IfOk v (SaysWhy db)) → (IsKept db → IfOk v (SaysLater limit db)) → Told v → (finding : Finding) → done ≡ Err (trouble.Unsound finding) → FindsWith image (λ d. IsToldTruly d finding)
-    why_from (Ok (verdict.Sound version workunits results)) limit unlimited says later tells finding is =
+    why_from : (v : Result Verdict Fault) (its : Result Counts Trouble) (limit : Option ℕ) → limit ≡ None → AreOfVerdict v its → (IsKept db → IfOk v (SaysWhy db)) → (IsKept db → IfOk v (SaysLater limit db)) → TellsSound contents old new its done
+        → (finding : Finding) → done ≡ Err (trouble.Unsound finding) → FindsWith image (λ d. IsToldTruly d finding)
+    why_from v (Ok counts) limit unlimited gives says later tells finding is =
         absurd (let e : trouble.Unsound finding ≡ trouble.Fault Output = subst (λ (r : Result (Unit {0}) Trouble). IsOkUnless r (trouble.Fault Output)) is tells.1 in cc)
-    why_from (Ok (verdict.Unsound f)) limit unlimited says later tells finding is =
-        let same : f ≡ finding = let e = tells.0 in cc in
-        finds (λ d. IsToldTruly d finding) (λ k. record { tells = subst (Tells db) same (says k); later = subst (PutsLaterFirst db) same (later k unlimited) })
-    why_from (Err f) limit unlimited says later tells finding is = absurd (let e = tells.0 in cc)
+    why_from v (Err told) limit unlimited gives says later tells finding is =
+        let same : told ≡ trouble.Unsound finding = let e = tells.0 in cc in
+        let of : AreOfVerdict v (Err (trouble.Unsound finding)) = subst (λ t. AreOfVerdict v (Err t)) same gives in
+        finds (λ d. IsToldTruly d finding) (λ k. record { tells = found_by v finding (SaysWhy db) of (says k); later = found_by v finding (SaysLater limit db) of (later k) unlimited })
 
     abbrev IsExpected : World → Trouble → Type 0
     IsExpected world told = IsWant told ⊎ IsTakenName image world told
 
-    want_from : (v : Result Verdict Fault) → IfOk v (SaysUnsound db) → IfErr v IsFailure → Told v → (p : IsSoundProject db) → IfErr done (IsExpected p.world)
-    want_from (Ok (verdict.Sound version workunits results)) says fails tells p = wanted done tells.1
+    -- what a check of a sound project may report
+    expected : (v : Result Verdict Fault) (told : Trouble) → AreOfVerdict v (Err told) → IfOk v (SaysUnsound db) → IfErr v IsFailure → (p : IsSoundProject db) → IsExpected p.world told
+    expected (Ok (verdict.Sound counts)) told gives says fails p = absurd cc
+    expected (Ok (verdict.Unsound f)) told gives says fails p =
+        let same : trouble.Unsound f ≡ told = cc in
+        subst (IsExpected p.world) same (inr (record { db = db; found = found; sound = sound; taken = says p }))
+    expected (Err f) told gives says fails p =
+        let same : trouble.Fault f ≡ told = cc in
+        subst (IsExpected p.world) same (inl (inl fails))
+
+    want_from : (v : Result Verdict Fault) (its : Result Counts Trouble) → AreOfVerdict v its → IfOk v (SaysUnsound db) → IfErr v IsFailure → TellsSound contents old new its done → (p : IsSoundProject db) → IfErr done (IsExpected p.world)
+    want_from v (Ok counts) gives says fails tells p = wanted done tells.1
       where
         wanted : (r : Result (Unit {0}) Trouble) → IsOkUnless r (trouble.Fault Output) → IfErr r (IsExpected p.world)
         wanted (Ok u) is = tt
         wanted (Err t) is = inl (subst IsWant (sym is) (inr refl))
-    want_from (Ok (verdict.Unsound f)) says fails tells p =
-        subst (λ (r : Result (Unit {0}) Trouble). IfErr r (IsExpected p.world)) (sym tells.0) (inr (record { db = db; found = found; sound = sound; taken = says p }))
-    want_from (Err f) says fails tells p = subst (λ (r : Result (Unit {0}) Trouble). IfErr r (IsExpected p.world)) (sym tells.0) (inl (inl fails))
+    want_from v (Err told) gives says fails tells p =
+        subst (λ (r : Result (Unit {0}) Trouble). IfErr r (IsExpected p.world)) (sym tells.0) (expected v told gives says fails p)
 
   module _ (files : Files Memory) where
     abbrev image : Image
@@ -133,6 +153,8 @@ module _ {W : Type 0} (contents : W → Option (List ℕ)) (old new : W) (done :
     opened_tells it =
         let db = (file_state it.conn).now in
         let over = it.checks.1 in
+        let counted = over.checks in
+        let check = counted.checks in
         let clean = memory_clean it.checks.0 in
         let opens = it.opened.opens (memory_clean it.conn) in
         let finds = it.opened.finds (memory_clean it.conn) in
@@ -140,12 +162,12 @@ module _ {W : Type 0} (contents : W → Option (List ℕ)) (old new : W) (done :
         let sound : IsDatabase db = (opens.1 opens.0.is_open).0 in
         let found : AreFoundIn image db.trees = subst (λ (d : Database). AreFoundIn image d.trees) (sym same) finds.reads in
         record {
-          sound = λ is. sound_from image db found sound over.verdict (over.sound clean) over.tells is;
+          sound = λ is. sound_from image db found sound counted.verdict over.counts counted.gives (check.sound clean) over.tells is;
           unsound = λ world held right known.
               let at : FoundAs (file_state it.conn).committed.trees world = subst (λ (ts : Trees). FoundAs ts world) (sym (finds.holds held.trees held.holds)) held.found in
               let stands : StandsFor db world = stands_still at.database db world at.stands sound (ap (λ (d : Database). d.trees) same ∙ sym at.same) in
-              want_from image db found sound over.verdict (over.unsound clean) (over.answered clean it.opened.fresh.unlimited) over.tells (record { world = world; stands = stands; sound = right; known = known });
-          why = λ finding is. why_from image db found sound over.verdict it.conn.step_limit it.opened.fresh.unlimited (over.told clean) (over.later clean) over.tells finding is;
+              want_from image db found sound counted.verdict over.counts counted.gives (check.unsound clean) (check.answered clean it.opened.fresh.unlimited) over.tells (record { world = world; stands = stands; sound = right; known = known });
+          why = λ finding is. why_from image db found sound counted.verdict over.counts it.conn.step_limit it.opened.fresh.unlimited counted.gives (check.told clean) (check.later clean) over.tells finding is;
         }
 
     -- ---- one that could not be opened

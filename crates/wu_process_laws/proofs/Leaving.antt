@@ -31,7 +31,6 @@ use Rattle.sqlite.specs.State.{HasCleanDisk}
 use Rattle.sqlite.specs.Tree.{Trees}
 use Rattle.wu_core.specs.World.{World}
 use Rattle.wu_core.specs.declared.fault.Fault.{Fault}
-use Rattle.wu_core.specs.declared.fault.Fault.TheVariants as fault
 use Rattle.wu_drive.proofs.DrivingLemmas.{fold_more}
 use Rattle.wu_drive.specs.Driving.{Drives, world_after}
 use Rattle.wu_machine.specs.Commands.{request_of}
@@ -50,16 +49,18 @@ use Rattle.wu_schema.proofs.VersionLemmas.{free_lacks}
 use Rattle.wu_arguments.specs.Statuses.{fault_status}
 use Rattle.wu_arguments.specs.declared.action.Action.{Action}
 use Rattle.wu_arguments.specs.declared.action.Action.TheVariants.{Commands, Look, Refused}
+use Rattle.wu_arguments.specs.declared.step.LineFault.{LineFault}
+use Rattle.wu_cli.specs.Trying.{RanStep}
 use Rattle.wu_cli.specs.Scripting.{so_far}
 use Rattle.wu_cli.specs.Troubles.{trouble_status}
-use Rattle.wu_cli.specs.Working.{BeginsFrom, commands_of_work, DoesAdopted, DoesNothing, DoesOver, DrivesOver, DrivesWork, line_outcome, RefusesWork}
+use Rattle.wu_cli.specs.Working.{BeginsFrom, commands_of_work, DoesAdopted, DoesNothing, DoesOver, DrivesWork, line_outcome, RefusesWork, script_outcome}
 use Rattle.wu_cli.specs.Printing.{printed_action}
 use Rattle.wu_cli.proofs.PrintLemmas.{one_prints}
 use Rattle.wu_cli.proofs.ScriptLemmas.{script_clean}
 use Rattle.wu_cli.proofs.TellingLemmas.{drives_script}
-use Rattle.wu_cli.proofs.WorkLemmas.{begins, line_whole, script_whole, work_clean}
+use Rattle.wu_cli.proofs.WorkLemmas.{begins, line_whole, script_whole, work_clean, work_drives}
 use Rattle.wu_passes.proofs.SessionLemmas.{over_shows}
-use Rattle.wu_report.specs.Writing.{AppendsFront, WritesTo}
+use Rattle.wu_report.specs.Writing.{WritesTo}
 use Rattle.wu_arguments.specs.declared.step.Script.{Script}
 use Rattle.std.proofs.Math.Seq.{take-length}
 use Rattle.std.specs.Io.KnownBytes.{Appends}
@@ -78,7 +79,7 @@ use Rattle.wu_process.specs.Opening.{IsOpenedAt}
 use Rattle.wu_process.specs.Running.{ExportsIfDone, TellsTrouble}
 use Rattle.wu_process.specs.declared.End.{End}
 use Rattle.wu_process.specs.declared.database.LeftDatabase.TheVariants as left
-use Rattle.wu_process_laws.specs.Runs.{BeginsWhereOneEnded, BeginsWhereOneStopped, done_by, done_by_unclosed, HoldAfter, HoldAfterOneMore, Holds, LeavesAsItWas, LeavesDone, LeavesItsDone, LeavesItsDoneOrMore, LeavesItsWork, LeavesItsWorkUnclosed, OfEachImage, ImageRefines, TellsDone}
+use Rattle.wu_process_laws.specs.Runs.{BeginsWhereOneEnded, BeginsWhereOneStopped, done_by, done_by_unclosed, HoldAfter, HoldAfterOneMore, Holds, LeavesAsItWas, LeavesDone, LeavesItsDone, LeavesItsDoneOrMore, LeavesItsWork, LeavesItsWorkUnclosed, OfEachImage, ImageRefines, TellsDone, TellsText}
 
 -- ---- statuses
 
@@ -93,6 +94,10 @@ HasStatus done status = IfErr done (λ t. status ≡ trouble_status t)
 whole_at : (done : Result (Unit {0}) Trouble) (status : ℕ) (A : Type 0) → HasStatus done status → OnOk done A → status ≡ 0 → A
 whole_at (Ok done) status A has whole none = whole
 whole_at (Err t) status A has whole none = absurd (trouble_told t (sym has ∙ none))
+
+done_at : (done : Result (Unit {0}) Trouble) (status : ℕ) → HasStatus done status → status ≡ 0 → done ≡ Ok tt
+done_at (Ok done) status has none = refl
+done_at (Err t) status has none = absurd (trouble_told t (sym has ∙ none))
 
 status_at : (done : Result (Unit {0}) Trouble) (status : ℕ) (f : Fault) → HasStatus done status → done ≡ Err (trouble.Fault f) → status ≡ fault_status f
 status_at done status f has told = subst (λ (d : Result (Unit {0}) Trouble). HasStatus d status) told has
@@ -116,9 +121,26 @@ was_clean contents conn again old new asked done (inr none) clean = omega (arith
 
 -- ---- what was told of the work
 
+-- what ended without a trouble ended without a fault
+line_ended : (end : Option Fault) → line_outcome end ≡ Ok tt → end ≡ None
+line_ended None is = refl
+line_ended (Some fault) is = absurd cc
+
+script_ended : (end : Option LineFault) → script_outcome end ≡ Ok tt → end ≡ None
+script_ended None is = refl
+script_ended (Some end) is = absurd cc
+
+-- and what is told with success is told with what follows from that
+tells_at : {A B : Type 0} (before after : Option (List ℕ)) (world : World) (asked : Work) (ran : List RanStep) (answers : List Answer) (count : ℕ) → (B → A)
+    → TellsDone before after A world asked ran answers count → TellsDone before after B world asked ran answers count
+tells_at before after world (work.Line (Commands commands)) ran answers count then (end, whole, written) = (end, λ b. whole (then b), written)
+tells_at before after world (work.Line (Look view)) ran answers count then (part, whole) = (part, λ b. whole (then b))
+tells_at before after world (work.Line (Refused fault)) ran answers count then (part, whole) = (part, λ b. whole (then b))
+tells_at before after world (work.Script script) ran answers count then (end, whole, told) = (end, λ b. whole (then b), told)
+
 module _ {D W : Type 0} {g : Ghosts D} (contents : W → Option (List ℕ)) (conn again : Held (FileStore D g)) (old new : W) (done : Result (Unit {0}) Trouble) where
   abbrev ToldWork : World → Work → Type 0
-  ToldWork world asked = (it : DrivesWork world asked done (file_state again)) × TellsDone (contents old) (contents new) world asked it.ran it.answers it.count
+  ToldWork world asked = (it : DrivesWork world asked done (file_state again)) × TellsDone (contents old) (contents new) (done ≡ Ok tt) world asked it.ran it.answers it.count
 
   -- a line of commands was done over an adopted project
   line_told : (commands : List Command) (does : DoesAdopted over_files contents conn again old new (work.Line (Commands commands)) done) → HasCleanDisk (file_state again) → (world : World) → IsProject world
@@ -149,7 +171,7 @@ module _ {D W : Type 0} {g : Ghosts D} (contents : W → Option (List ℕ)) (con
           drives = subst (λ c. Drives world commands answers (so_far run.acknowledged) (has_ended does.new) (file_state c)) (sym does.released) it;
           whole = whole;
         },
-        (run.end, written),
+        (run.end, λ ok. is ∙ line_ended end (sym told ∙ ok), written),
       )
 
   -- a script was
@@ -172,44 +194,50 @@ module _ {D W : Type 0} {g : Ghosts D} (contents : W → Option (List ℕ)) (con
           drives = subst (λ c. Drives world commands driven.answers (so_far driven.count) driven.is_cut (file_state c)) (sym does.released) driven.drives;
           whole = whole;
         },
-        (end, driven.told),
+        (end, λ ok. script_ended end (sym told ∙ ok), driven.told),
       )
 
-  -- of an action at least a part of its text went out
-  part_told : (action : Action) (does : DoesAdopted over_files contents conn again old new (work.Line action) done) → HasCleanDisk (file_state again) → (world : World) → IsProject world
-      → BeginsFrom (file_state conn) world → AppendsFront (contents old) (contents new) (printed_action world action)
-  part_told action does clean world project begun =
+  -- of an action at least a part of its text went out, and with success all of it
+  text_told : (action : Action) (does : DoesAdopted over_files contents conn again old new (work.Line action) done) → HasCleanDisk (file_state again) → (world : World) → IsProject world
+      → BeginsFrom (file_state conn) world → DrivesWork world (work.Line action) done (file_state again) × TellsText (contents old) (contents new) (done ≡ Ok tt) (printed_action world action)
+  text_told action does clean world project begun =
       let (end, acts, told) = does.does in
       let after : HasCleanDisk (state_of does.new) = subst (λ c. HasCleanDisk (file_state c)) does.released clean in
       let before : HasCleanDisk (state_of does.old) = let kept = work_clean contents does.old does.new old new (work.Line action) done does.does in omega (arith, kept, after) in
       let over = begins over_files contents conn again old new _ done does before world project begun in
-      front end (one_prints contents does.old does.new old new action end acts does.begins after world (over_shows does.old world over))
+      let drives = work_drives contents does.old does.new old new (work.Line action) done does.does does.begins after world over in
+      let writes = subst (λ (d : Result (Unit {0}) Trouble). WritesTo contents old new (printed_action world action) d) (sym told)
+      (one_prints contents does.old does.new old new action end acts does.begins after world (over_shows does.old world over)) in
+      (subst (λ c. DrivesWork world (work.Line action) done (file_state c)) (sym does.released) drives, text_of done writes)
     where
       text : List ℕ
       text = printed_action world action
 
-      front : (end : Option Fault) → WritesTo contents old new text (line_outcome end) → AppendsFront (contents old) (contents new) text
-      front None whole = (length text, subst (Appends (contents old) (contents new)) (sym (take-length text)) whole)
-      front (Some fault) part = part
+      text_of : (d : Result (Unit {0}) Trouble) → WritesTo contents old new text d → TellsText (contents old) (contents new) (d ≡ Ok tt) text
+      text_of (Ok it) whole = ((length text, subst (Appends (contents old) (contents new)) (sym (take-length text)) whole), λ _. whole)
+      text_of (Err why) part = (part, λ is. absurd cc)
 
-  nothing_told : (asked : Work) → DoesNothing over_files contents conn again old new asked done → HasCleanDisk (file_state again) → (world : World) → RefusesWork (file_state conn) (file_state again) world done
-  nothing_told asked none clean world = record {
-    fault = none.fault;
-    told = none.told;
-    why = none.refused.told;
-    stands = (none.refused.given clean).goes world;
-  }
+  abbrev RefusedWork : World → Type 0
+  RefusedWork world = RefusesWork (file_state conn) (file_state again) world done × (contents new ≡ contents old)
 
-  work_told : (asked : Work) → DoesOver over_files contents conn again old new asked done → DrivesOver over_files conn again asked done → HasCleanDisk (file_state again) → (world : World) → IsProject world
-      → BeginsFrom (file_state conn) world → ToldWork world asked ⊎ RefusesWork (file_state conn) (file_state again) world done
-  work_told (work.Line (Commands commands)) (inl does) drives clean world project begun = inl (line_told commands does clean world project begun)
-  work_told (work.Line (Commands commands)) (inr none) drives clean world project begun = inr (nothing_told _ none clean world)
-  work_told (work.Line (Look view)) (inl does) drives clean world project begun = elim (drives clean world project begun) [ inl works ↦ inl (works, part_told (Look view) does clean world project begun) | inr refuses ↦ inr refuses ]
-  work_told (work.Line (Look view)) (inr none) drives clean world project begun = inr (nothing_told _ none clean world)
-  work_told (work.Line (Refused fault)) (inl does) drives clean world project begun = elim (drives clean world project begun) [ inl works ↦ inl (works, part_told (Refused fault) does clean world project begun) | inr refuses ↦ inr refuses ]
-  work_told (work.Line (Refused fault)) (inr none) drives clean world project begun = inr (nothing_told _ none clean world)
-  work_told (work.Script script) (inl does) drives clean world project begun = inl (script_told script does clean world project begun)
-  work_told (work.Script script) (inr none) drives clean world project begun = inr (nothing_told _ none clean world)
+  nothing_told : (asked : Work) → DoesNothing over_files contents conn again old new asked done → HasCleanDisk (file_state again) → (world : World) → RefusedWork world
+  nothing_told asked none clean world = (
+    record {
+      fault = none.fault;
+      told = none.told;
+      why = none.refused.told;
+      stands = (none.refused.given clean).goes world;
+    },
+    ap contents none.unwritten,
+  )
+
+  work_told : (asked : Work) → DoesOver over_files contents conn again old new asked done → HasCleanDisk (file_state again) → (world : World) → IsProject world
+      → BeginsFrom (file_state conn) world → ToldWork world asked ⊎ RefusedWork world
+  work_told asked (inr none) clean world project begun = inr (nothing_told asked none clean world)
+  work_told (work.Line (Commands commands)) (inl does) clean world project begun = inl (line_told commands does clean world project begun)
+  work_told (work.Line (Look view)) (inl does) clean world project begun = inl (text_told (Look view) does clean world project begun)
+  work_told (work.Line (Refused fault)) (inl does) clean world project begun = inl (text_told (Refused fault) does clean world project begun)
+  work_told (work.Script script) (inl does) clean world project begun = inl (script_told script does clean world project begun)
 
 -- ---- what a run begins with
 
@@ -237,7 +265,7 @@ module _ {D : Type 0} {g : Ghosts D} (stays : SeenMayStay g) (conn : Held (FileS
       let none : (file_state conn).now.trees catalog_tree ≡ [] = ap (λ (d : Database). d.trees catalog_tree) same ∙ (no_database image _ blank found.reads).1 in
       free_lacks _ (free_of_none _ _ (codes "project") none ((opened.1 opened.0.is_open).0.lists))
 
-  goes_from : (world : World) → HoldsWorld image world → GoesOn (file_state conn) world
+  pub goes_from : (world : World) → HoldsWorld image world → GoesOn (file_state conn) world
   goes_from world held =
       let same : (file_state conn).now ≡ (file_state conn).committed = opened.0.clean in
       let it : FoundAs (file_state conn).committed.trees world = subst (λ (db : Trees). FoundAs db world) (sym (found.holds held.trees held.holds)) held.found in
@@ -248,7 +276,7 @@ module _ {D : Type 0} {g : Ghosts D} (stays : SeenMayStay g) (conn : Held (FileS
         left = λ db may. subst (λ (t : Trees). FoundAs t world) (sym (settled_at conn.store stays db opened.0.is_open may)) it;
       }
 
-  begins_from : (world : World) → ImageRefines image world → BeginsFrom (file_state conn) world
+  pub begins_from : (world : World) → ImageRefines image world → BeginsFrom (file_state conn) world
   begins_from world (inl held) = inl (goes_from world held)
   begins_from world (inr (blank, same)) = inr (no_project blank, same)
 
@@ -263,7 +291,7 @@ next_world world commands i command there =
 -- each image that a stop may leave of the files holds tables that it may leave of the connection
 module _ {D : Type 0} {g : Ghosts D} (again : Held (FileStore D g)) (files : Files D)
     (each : OfEachImage g files (λ image. (db : Trees) × (file_state again).may_leave db × HoldsDatabase image db)) where
-  all_hold : (world : World) → GoesOn (file_state again) world → OfEachImage g files (λ image. HoldsWorld image world)
+  pub all_hold : (world : World) → GoesOn (file_state again) world → OfEachImage g files (λ image. HoldsWorld image world)
   all_hold world goes image may = ∥∥₁_map (each image may) (λ it.
       let held : HoldsWorld image world = record { trees = it.0; holds = it.2; found = goes.left it.0 it.1 } in held)
 
@@ -316,7 +344,7 @@ module _ {D : Type 0} {g : Ghosts D} (again : Held (FileStore D g)) (files : Fil
           ]
 
   module _ (done : Result (Unit {0}) Trouble) (status : ℕ) (has : HasStatus done status) where
-    leaves_done : (says : Holds) (before after : Option (List ℕ)) (world : World) (asked : Work) (it : DrivesWork world asked done (file_state again)) → TellsDone before after world asked it.ran it.answers it.count
+    leaves_done : (says : Holds) (before after : Option (List ℕ)) (world : World) (asked : Work) (it : DrivesWork world asked done (file_state again)) → TellsDone before after (done ≡ Ok tt) world asked it.ran it.answers it.count
         → OfEachImage g files (says world (commands_of_work world asked it.ran) it.count) → LeavesDone g files says before after world asked status
     leaves_done says before after world asked it told held = record {
       ran = it.ran;
@@ -325,13 +353,15 @@ module _ {D : Type 0} {g : Ghosts D} (again : Held (FileStore D g)) (files : Fil
       within = it.drives.within;
       answers = it.answers;
       answered = it.drives.answered;
-      told = told;
+      told = tells_at before after world asked it.ran it.answers it.count (done_at done status has) told;
       whole = whole_at done status _ has it.whole;
       held = held;
     }
 
-    leaves_as_it_was : (conn : Held (FileStore D g)) (first : Image) (world : World) → (HoldsWorld first world → GoesOn (file_state conn) world) → RefusesWork (file_state conn) (file_state again) world done → LeavesAsItWas g files first world status
-    leaves_as_it_was conn first world goes it = record {
+    leaves_as_it_was : (conn : Held (FileStore D g)) (first : Image) (before after : Option (List ℕ)) (world : World) → (HoldsWorld first world → GoesOn (file_state conn) world)
+        → RefusesWork (file_state conn) (file_state again) world done → after ≡ before → LeavesAsItWas g files first before after world status
+    leaves_as_it_was conn first before after world goes it unwritten = record {
+      unwritten = unwritten;
       fault = it.fault;
       told = status_at done status it.fault has it.told;
       why = it.why;
@@ -340,7 +370,7 @@ module _ {D : Type 0} {g : Ghosts D} (again : Held (FileStore D g)) (files : Fil
 
 -- ---- what a close leaves
 
-copied_each : {D : Type 0} {g : Ghosts D} (again : Held (FileStore D g)) (files : Files D) → SeenMayStay g → IsCopied again files
+pub copied_each : {D : Type 0} {g : Ghosts D} (again : Held (FileStore D g)) (files : Files D) → SeenMayStay g → IsCopied again files
     → OfEachImage g files (λ image. (db : Trees) × (file_state again).may_leave db × HoldsDatabase image db)
 copied_each again files stays copied image may = ∥∥₁_map (copied.left image may).both (λ holds. ((file_state again).committed.trees, stays_at again.store stays copied.was_open, holds))
 
@@ -366,17 +396,17 @@ module _ {D : Type 0} {g : Ghosts D} (again : Held (FileStore D g)) (last : File
 module _ {S W E : Type 0} {c : calls.Ghosts Host} {s : start.Ghosts S} {g : Ghosts (Modelled Host S c s)} (stays : SeenMayStay g) (contents : W → Option (List ℕ)) (told_of : E → Option (List ℕ)) where
   -- a database was opened, the work was done over it, and each image holds what is left of that
   opened_leaves : (says : Holds) (conn again : Held (FileStore (Modelled Host S c s) g)) (path : List ℕ) (asked : Work) (old new : W) (done : Result (Unit {0}) Trouble) (status : ℕ) (files : Files (Modelled Host S c s))
-      → IsOpenedAt path (image_at s) conn → DoesOver over_files contents conn again old new asked done → DrivesOver over_files conn again asked done → HasStatus done status
+      → IsOpenedAt path (image_at s) conn → DoesOver over_files contents conn again old new asked done → HasStatus done status
       → HasCleanDisk (file_state again) → OfEachImage g files (λ image. (db : Trees) × (file_state again).may_leave db × HoldsDatabase image db)
       → ((world : World) (it : DrivesWork world asked done (file_state again)) → OfEachImage g files (says world (commands_of_work world asked it.ran) it.count))
-      → (world : World) → IsProject world → ImageRefines (image_at s) world → LeavesDone g files says (contents old) (contents new) world asked status ⊎ LeavesAsItWas g files (image_at s) world status
-  opened_leaves says conn again path asked old new done status files at does drives has clean each hold world project start =
+      → (world : World) → IsProject world → ImageRefines (image_at s) world → LeavesDone g files says (contents old) (contents new) world asked status ⊎ LeavesAsItWas g files (image_at s) (contents old) (contents new) world status
+  opened_leaves says conn again path asked old new done status files at does has clean each hold world project start =
       let early : HasCleanDisk (file_state conn) = was_clean contents conn again old new asked done does clean in
       let opened : IsOpened conn = at.opens early in
       let found : FindsIn (image_at s) (file_state conn) = at.finds early in
-      elim (work_told contents conn again old new done asked does drives clean world project (begins_from stays conn opened (image_at s) found world start)) [
+      elim (work_told contents conn again old new done asked does clean world project (begins_from stays conn opened (image_at s) found world start)) [
         | inl works ↦ inl (leaves_done again files each done status has says (contents old) (contents new) world asked works.0 works.1 (hold world works.0))
-        | inr refuses ↦ inr (leaves_as_it_was again files each done status has conn (image_at s) world (goes_from stays conn opened (image_at s) found world) refuses)
+        | inr refuses ↦ inr (leaves_as_it_was again files each done status has conn (image_at s) (contents old) (contents new) world (goes_from stays conn opened (image_at s) found world) refuses.0 refuses.1)
       ]
 
   pub leaves_its_work : (end : End (Modelled Host S c s) g) → LeavesItsWork contents told_of end
@@ -389,7 +419,7 @@ module _ {S W E : Type 0} {c : calls.Ghosts Host} {s : start.Ghosts S} {g : Ghos
       λ honest.
       let copied : IsCopied it.again run.files = it.closed.copied honest in
       let each = copied_each it.again run.files stays copied in
-      opened_leaves HoldAfter conn it.again _ runs.work run.old opens.mid opens.first end.status run.files opens.does.opened it.does it.drives has copied.was_clean each
+      opened_leaves HoldAfter conn it.again _ runs.work run.old opens.mid opens.first end.status run.files opens.does.opened it.does has copied.was_clean each
       (λ world works. hold_after it.again run.files each copied.was_open world (commands_of_work world runs.work works.ran) works.answers works.count works.is_cut works.drives)
 
   pub leaves_its_work_unclosed : (end : End (Modelled Host S c s) g) → LeavesItsWorkUnclosed contents told_of end
@@ -401,7 +431,7 @@ module _ {S W E : Type 0} {c : calls.Ghosts Host} {s : start.Ghosts S} {g : Ghos
       let has = first_status contents _ runs.work _ _ told_of run.err_old run.err_new opens.first run.obeys.done end.status end.is_told opens.exports run.obeys.tells in
       λ honest.
       let each = unclosed_each it.again run.store it.closed.quiet run.numbered run.files run.files_are honest in
-      opened_leaves HoldAfterOneMore conn it.again _ runs.work run.old opens.mid opens.first end.status run.files opens.does.opened it.does it.drives has
+      opened_leaves HoldAfterOneMore conn it.again _ runs.work run.old opens.mid opens.first end.status run.files opens.does.opened it.does has
       (unclosed_clean it.again run.store it.closed.quiet run.numbered run.files run.files_are honest) each
       (λ world works. hold_one_more it.again run.files each world (commands_of_work world runs.work works.ran) works.answers works.count works.is_cut works.drives)
 

@@ -4,3 +4,4 @@ mod KeptOutputs
 mod Leaving
 mod OutputNames
 mod RefilledLemmas
+mod SessionLeaving

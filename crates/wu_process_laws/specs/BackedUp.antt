@@ -7,7 +7,7 @@ use Rattle.sqlite_wal.specs.Recovery.{Image}
 use Rattle.sqlite.specs.Effect.{Database}
 use Rattle.sqlite.specs.Files.{AreFoundIn, HoldsDatabase}
 use Rattle.wu_check.specs.Findings.{IsSoundAs}
-use Rattle.wu_cli.specs.declared.backup.Counts.{Counts}
+use Rattle.wu_check.specs.declared.finding.Counts.{Counts}
 use Rattle.wu_cli.specs.declared.trouble.Trouble.{Trouble}
 use Rattle.wu_core.specs.World.{World}
 use Rattle.wu_lives.specs.Runs.{HoldsWorld}
@@ -34,9 +34,9 @@ pub record HasNoOthers (image : Image) : Type 0 where
 pub record IsBackupOf (image : Image) (bytes : List ℕ) (counts : Counts) : Type 0 where
   -- The new file holds each world that the two files hold.
   pub world : (world : World) → HoldsWorld image world → ∥ HoldsWorld (without_log bytes) world ∥₁
-  -- All tables of the two files are in it, or files that hold a world hold nothing of another program.
-  pub others : HoldsTables image bytes ⊎ ((world : World) → HoldsWorld image world → HasNoOthers image)
-  pub sound : FindsWith image (λ db. IsSoundAs db counts.version counts.workunits counts.results)
+  -- All tables of the two files are in it, or the two files hold nothing of another program.
+  pub others : HoldsTables image bytes ⊎ HasNoOthers image
+  pub sound : FindsWith image (λ db. IsSoundAs db counts)
 
 -- Each file that becomes of a copy is a backup of the files that were read.
 abbrev pub EachBackupHolds : Type 0

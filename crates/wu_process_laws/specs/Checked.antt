@@ -6,6 +6,7 @@ use Rattle.sqlite.specs.Files.{AreFoundIn}
 use Rattle.sqlite_wal.specs.Recovery.{Image}
 use Rattle.wu_check.specs.Checking.{HasWholeRows, IsKnown}
 use Rattle.wu_check.specs.Findings.{IsSoundAs, PutsLaterFirst, Tells, TellsOfSound}
+use Rattle.wu_check.specs.declared.finding.Counts.{Counts}
 use Rattle.wu_check.specs.declared.finding.Finding.{Finding}
 use Rattle.wu_core.specs.World.{World}
 use Rattle.wu_core.specs.declared.fault.Fault.TheVariants.{Output}
@@ -31,12 +32,10 @@ pub record FindsWith (image : Image) (Holds : Database → Type 0) : Type 0 wher
   pub holds : HasWholeRows db → Holds db
 
 -- The line of a sound project went out, and the files hold a sound project with these numbers.
-pub record FindsSound (image : Image) (before after : Option (List ℕ)) : Type 0 where
-  pub version : ℕ
-  pub workunits : ℕ
-  pub results : ℕ
-  pub told : Appends before after (sound_line version workunits results)
-  pub found : FindsWith image (λ db. IsSoundAs db version workunits results)
+pub record ReportsSound (image : Image) (before after : Option (List ℕ)) : Type 0 where
+  pub counts : Counts
+  pub told : Appends before after (sound_line counts)
+  pub found : FindsWith image (λ db. IsSoundAs db counts)
 
 -- The finding is true of the database, and a later version is reported before all else.
 pub record IsToldTruly (db : Database) (finding : Finding) : Type 0 where
@@ -65,7 +64,7 @@ IsWant _ = ⊥
 
 pub record TellsOfFiles (image : Image) (before after : Option (List ℕ)) (done : Result (Unit {0}) Trouble) : Type 0 where
   -- If `ok` is reported, the files hold a sound project of a known version with the printed numbers.
-  pub sound : done ≡ Ok tt → FindsSound image before after
+  pub sound : done ≡ Ok tt → ReportsSound image before after
   -- If the files hold a sound project of a known version, no trouble is reported except out of memory, a failed copy, a
   -- failed output, or a name that something has and that its upgrade gives. An upgrade of the present version gives none.
   pub unsound : (world : World) → HoldsWorld image world → IsSound world → IsKnown world.version

@@ -1,6 +1,6 @@
 -- What a run of the program leaves of its database, and where the next run begins.
 use Rattle.std.proofs.Common.{subst}
-use Rattle.std.specs.Prelude.{◌≡◌, ◌⊎◌, ◌+◌, ◌≤◌, ℕ, List, [], length, take, Option, Some}
+use Rattle.std.specs.Prelude.{◌≡◌, ◌⊎◌, ◌+◌, ◌≤◌, ℕ, List, [], length, take, Option, None, Some}
 use Rattle.sqlite.specs.declared.error.Error.{Error}
 use Rattle.sqlite_disk.specs.declared.Disk.{Ghosts}
 use Rattle.sqlite_disk.specs.declared.Files.{Files}
@@ -25,6 +25,7 @@ use Rattle.wu_arguments.specs.Statuses.{fault_status}
 use Rattle.wu_arguments.specs.declared.action.Action.TheVariants.{Commands, Look, Refused}
 use Rattle.wu_arguments.specs.declared.step.LineFault.{LineFault}
 use Rattle.wu_report.specs.Texts.{view_text}
+use Rattle.std.specs.Io.KnownBytes.{Appends}
 use Rattle.wu_report.specs.Writing.{AppendsFront}
 use Rattle.wu_cli.specs.Repeating.{unrolled}
 use Rattle.wu_cli.specs.Telling.{TellsSteps}
@@ -65,22 +66,29 @@ module _ {D : Type 0} (g : Ghosts D) (files : Files D) where
   abbrev pub OfEachImage : (Image → Type 0) → Type 0
   OfEachImage holds = (image : Image) → outcomes g files.log files.db image → ∥ holds image ∥₁
 
-  -- No project was adopted, for this fault, and the status is that fault's. A world that the files held they hold
-  -- still.
-  pub record LeavesAsItWas (first : Image) (world : World) (status : ℕ) : Type 0 where
+  -- No project was adopted, for this fault, and the status is that fault's. Nothing went out, and a world that the files
+  -- held they hold still.
+  pub record LeavesAsItWas (first : Image) (before after : Option (List ℕ)) (world : World) (status : ℕ) : Type 0 where
     pub fault : Fault
     pub told : status ≡ fault_status fault
     pub why : IsAdoptionFault fault
+    pub unwritten : after ≡ before
     pub held : HoldsWorld first world → OfEachImage (λ image. HoldsWorld image world)
+
+-- With success all of the text went out, and else a prefix of it.
+abbrev pub TellsText : Option (List ℕ) → Option (List ℕ) → Type 0 → List ℕ → Type 0
+TellsText before after Success text = AppendsFront before after text × (Success → Appends before after text)
 
 -- What went out reports as many commands as were done. Of a line, these are the texts of the answers, the last one cut
 -- only with `Output`. Of a script, these are the texts of its steps, up to the one that ended it. Of a view, this is a
--- prefix.
-abbrev pub TellsDone : Option (List ℕ) → Option (List ℕ) → World → Work → List RanStep → List Answer → ℕ → Type 0
-TellsDone before after world (work.Line (Commands commands)) ran answers count = (end : Option Fault) × WritesAnswers before after answers (record { acknowledged = count; end = end })
-TellsDone before after world (work.Line (Look view)) ran answers count = AppendsFront before after (view_text world view)
-TellsDone before after world (work.Line (Refused fault)) ran answers count = AppendsFront before after []
-TellsDone before after world (work.Script script) ran answers count = (end : Option LineFault) × TellsSteps before after world (unrolled world ran) count end
+-- prefix. With success no text is cut.
+abbrev pub TellsDone : Option (List ℕ) → Option (List ℕ) → Type 0 → World → Work → List RanStep → List Answer → ℕ → Type 0
+TellsDone before after Success world (work.Line (Commands commands)) ran answers count =
+    (end : Option Fault) × (Success → end ≡ None) × WritesAnswers before after answers (record { acknowledged = count; end = end })
+TellsDone before after Success world (work.Line (Look view)) ran answers count = TellsText before after Success (view_text world view)
+TellsDone before after Success world (work.Line (Refused fault)) ran answers count = TellsText before after Success []
+TellsDone before after Success world (work.Script script) ran answers count =
+    (end : Option LineFault) × (Success → end ≡ None) × TellsSteps before after world (unrolled world ran) count end
 
 module _ {D : Type 0} (g : Ghosts D) (files : Files D) (says : Holds) (before after : Option (List ℕ)) where
   -- So many commands of the work, as its steps ran, were done in order, each with the machine's reply; with status 0 all
@@ -92,7 +100,7 @@ module _ {D : Type 0} (g : Ghosts D) (files : Files D) (says : Holds) (before af
     pub within : count ≤ length (commands_of_work world asked ran)
     pub answers : List Answer
     pub answered : AnswerAll world (take count (commands_of_work world asked ran)) answers
-    pub told : TellsDone before after world asked ran answers count
+    pub told : TellsDone before after (status ≡ 0) world asked ran answers count
     pub whole : status ≡ 0 → count ≡ length (commands_of_work world asked ran)
     pub held : OfEachImage g files (says world (commands_of_work world asked ran) count)
 
@@ -100,7 +108,7 @@ module _ {D : Type 0} (g : Ghosts D) (files : Files D) (says : Holds) (before af
   abbrev pub LeavesBeginning : Image → Work → ℕ → Type 0
   LeavesBeginning first asked status =
       AreClean g files.log files.db → (world : World) → IsProject world → ImageRefines first world
-      → LeavesDone world asked status ⊎ LeavesAsItWas g files first world status
+      → LeavesDone world asked status ⊎ LeavesAsItWas g files first before after world status
 
 -- ---- one run
 
@@ -161,7 +169,7 @@ module _ {S T W E : Type 0} {c d : calls.Ghosts Host} {s : start.Ghosts S} {t : 
   -- Over this world, the second run did a prefix of its work, or adopted no project.
   abbrev pub DoesNext : ClosedRun contents told_of second → Work → World → Type 0
   DoesNext run asked world =
-      LeavesDone h run.files HoldAfter (contents run.old) (contents (done_by contents told_of second run).runs.mid) world asked second.status ⊎ LeavesAsItWas h run.files (image_at t) world second.status
+      LeavesDone h run.files HoldAfter (contents run.old) (contents (done_by contents told_of second run).runs.mid) world asked second.status ⊎ LeavesAsItWas h run.files (image_at t) (contents run.old) (contents (done_by contents told_of second run).runs.mid) world second.status
 
   -- The second run did so over the world after so many commands of the first, or after one more.
   pub record DoesNextAfter (run : ClosedRun contents told_of second) (asked : Work) (world : World) (commands : List Command) (count : ℕ) : Type 0 where
@@ -179,7 +187,8 @@ module _ {S T W E : Type 0} {c d : calls.Ghosts Host} {s : start.Ghosts S} {t : 
         AreClean h two.files.log two.files.db → (world : World) (it : LeavesDone g one.files HoldAfter (contents one.old) (contents (done_by contents told_of first one).runs.mid) world (done_by contents told_of first one).work first.status)
         → ∥ DoesNext two (done_by contents told_of second two).work (world_after world (commands_of_work world (done_by contents told_of first one).work it.ran) it.count) ∥₁
     pub kept :
-        AreClean h two.files.log two.files.db → (world : World) → IsProject world → HoldsWorld (image_at s) world → LeavesAsItWas g one.files (image_at s) world first.status
+        AreClean h two.files.log two.files.db → (world : World) → IsProject world → HoldsWorld (image_at s) world
+        → LeavesAsItWas g one.files (image_at s) (contents one.old) (contents (done_by contents told_of first one).runs.mid) world first.status
         → ∥ DoesNext two (done_by contents told_of second two).work world ∥₁
 
   -- Likewise after a first run whose close failed; its cut command may be in the world that the second run goes on
@@ -191,7 +200,8 @@ module _ {S T W E : Type 0} {c d : calls.Ghosts Host} {s : start.Ghosts S} {t : 
         AreClean h two.files.log two.files.db → (world : World) (it : LeavesDone g one.files HoldAfterOneMore (contents one.old) (contents (done_by_unclosed contents told_of first one).runs.mid) world (done_by_unclosed contents told_of first one).work first.status)
         → ∥ DoesNextAfter two (done_by contents told_of second two).work world (commands_of_work world (done_by_unclosed contents told_of first one).work it.ran) it.count ∥₁
     pub kept :
-        AreClean h two.files.log two.files.db → (world : World) → IsProject world → HoldsWorld (image_at s) world → LeavesAsItWas g one.files (image_at s) world first.status
+        AreClean h two.files.log two.files.db → (world : World) → IsProject world → HoldsWorld (image_at s) world
+        → LeavesAsItWas g one.files (image_at s) (contents one.old) (contents (done_by_unclosed contents told_of first one).runs.mid) world first.status
         → ∥ DoesNext two (done_by contents told_of second two).work world ∥₁
 
   -- If the second run begins over what a crash left of the first, it goes on from there.

@@ -4,8 +4,9 @@
 ghost use Rattle.wu_process.specs.Processes.{RunsProcess};
 ghost use Rattle.wu_process_laws.specs.BackedUp.{EachBackupHolds};
 ghost use Rattle.wu_process_laws.specs.Checked.{EachCheckIsTrue};
-ghost use Rattle.wu_process_laws.specs.KeptOutputs.{EachNameHasItsFile, EachOutputHasItsFile};
+ghost use Rattle.wu_process_laws.specs.KeptOutputs.{EachNameHasItsFile, EachOutputBeforeHasItsFile, EachOutputHasItsFile};
 ghost use Rattle.wu_process_laws.specs.Runs.{BeginsWhereOneEnded, BeginsWhereOneStopped, LeavesItsWork, LeavesItsWorkUnclosed};
+ghost use Rattle.wu_process_laws.specs.SessionRuns.{LeavesItsLines};
 
 use sqlite::{FileFrom, Start};
 use std::io::{self, BufRead, Write};
@@ -16,9 +17,9 @@ use wu_process::{End, run_with};
 /// that.
 pub fn a_run_leaves_a_beginning<S: Start, O: Write, E: Write>(end: &End<FileFrom<S>>)
     // Each crash image holds the world after the commands done, each with the machine's reply; with
-    // status 0 all are done. What went out reports as many commands as were done, the last text cut
-    // only with `Output`. Or nothing was adopted: the status is that of such a fault, and the files
-    // still hold their world.
+    // status 0 all are done, and all of their texts went out. What went out reports as many commands
+    // as were done. Or nothing was adopted: the status is that of such a fault, nothing went out,
+    // and the files still hold their world.
     ensures { LeavesItsWork O.contents E.contents end.now }
 {}
 
@@ -28,6 +29,16 @@ pub fn a_stopped_run_leaves_a_beginning<S: Start, O: Write, E: Write>(end: &End<
     // The same holds where the close failed and its store is numbered as its catalog says; the
     // command that was cut may be done too.
     ensures { LeavesItsWorkUnclosed O.contents E.contents end.now }
+{}
+
+/// Shows that a session that closed its database leaves the world after what its lines did, and that no crash changes
+/// that.
+pub fn a_session_leaves_a_beginning<S: Start, O: Write, E: Write>(end: &End<FileFrom<S>>)
+    // Each crash image holds the world after the commands that the lines of the input did, in order,
+    // each with the machine's reply. A line that was answered with `= 0` did all of its commands,
+    // and each other a prefix of its own. Or nothing was adopted: the status is that of such a
+    // fault, nothing went out, and the files still hold their world.
+    ensures { LeavesItsLines O.contents E.contents end.now }
 {}
 
 /// Shows that a run whose database holds what a crash left of another's goes on from the world that the other left.
@@ -64,11 +75,16 @@ pub fn run_and_leave<S: Start, R: BufRead, O: Write, E: Write>(
     ensures runs { RunsProcess O.contents E.contents out.old out.new err.old err.new
         (R.remaining input.old) (R.remaining input.new) result words }
     // Each crash image holds the world after the commands done, each with the machine's reply; with
-    // status 0 all are done. Or nothing was adopted, and the files still hold their world.
+    // status 0 all are done, and all of their texts went out. Or nothing was adopted, nothing went
+    // out, and the files still hold their world.
     ensures left { LeavesItsWork O.contents E.contents result }
+    // Of a session, they hold the world after the commands that its lines did. A line that was
+    // answered with `= 0` did all of its commands.
+    ensures sessions { LeavesItsLines O.contents E.contents result }
 {
     let end = run_with(rt, words, input, start, out, err);
     a_run_leaves_a_beginning::<S, O, E>(&end);
+    a_session_leaves_a_beginning::<S, O, E>(&end);
     end
 }
 
@@ -98,6 +114,9 @@ pub fn each_output_has_its_file<F: KeepFile>()
     // each world with classes that they hold, each output that was asked for has its file, with
     // exactly its bytes, and the counts are the number of these.
     ensures files { EachOutputHasItsFile F.KeepFile.keeps }
+    // Where an output has no file, which is reported with its workunit, those before it have
+    // theirs.
+    ensures before { EachOutputBeforeHasItsFile F.KeepFile.keeps }
     // The outputs of two workunits never have one file.
     ensures apart { EachNameHasItsFile }
 {}

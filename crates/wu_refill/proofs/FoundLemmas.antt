@@ -1,5 +1,5 @@
 -- The world that is found of a sound project is sound.
-use Rattle.std.proofs.Common.{◌≡◌, ℕ, ◌+◌, List, [], ◌∷◌, length, map, Option, Result, Ok, IfOk, IfSome, IsSomeAnd, None, Some, refl, sym, subst, ◌∙◌, arith}
+use Rattle.std.proofs.Common.{◌≡◌, ℕ, ◌+◌, List, [], ◌∷◌, length, map, Option, Result, Ok, Err, IfOk, IfSome, IsSomeAnd, None, Some, refl, sym, subst, ◌∙◌, arith}
 use Rattle.std.proofs.lemmas.List.Elements.{All-from_recursion}
 use Rattle.std.proofs.lemmas.Result.{IfOk-weaker}
 use Rattle.sqlite.specs.Effect.{Database}
@@ -26,7 +26,7 @@ use Rattle.wu_schema.specs.Tables.{HasTables}
 use Rattle.wu_schema.specs.Versions.{AnswersVersion}
 use Rattle.wu_store.proofs.SameWorld.{one_world}
 use Rattle.wu_tables.specs.Others.{HasOnlyAProject}
-use Rattle.wu_refill.specs.Loading.{FindsAlone, FindsSound, FindsTheirs, IsAlone, KeepsSound}
+use Rattle.wu_refill.specs.Loading.{FindsAlone, FindsSound, FindsTheirs, KeepsSound}
 
 -- the values of a sound world of the present version are such as rows are read as
 readable : (world : World) → IsSound world → IsUpToDate world → IsReadable world
@@ -100,17 +100,21 @@ finds_theirs g old new it finds r same clean world stands is =
     λ other e. subst (λ (f : Found). FindsWorld present_version g old new (Ok f)) e finds clean stands.trees (arranged db world stands is) (whole db world stands) in
     IfOk-weaker r _ _ (theirs_of db it told) same
 
--- and the database has nothing else
-alone_of : (db : Database) → HasOnlyAProject db.schema → (found : Option World) → IfSome found (Refines db) → IfSome found (IsAlone db)
-alone_of db only (Some it) stands = record { stands = stands; only = only }
-alone_of db only None none = tt
+-- what holds, holds if a world is found
+if_found : (A : Type 0) → A → (r : Result (Option World) Fault) → IfOk r (λ found. IfSome found (λ _. A))
+if_found A holds (Ok (Some it)) = holds
+if_found A holds (Ok None) = tt
+if_found A holds (Err fault) = tt
 
 pub alone_found : {S : Type 0} (g : Ghosts S) (old mid new : Held S) (version : Option ℕ) → version ≡ Some present_version → (HasCleanDisk (state g new) → HasCleanDisk (state g mid))
     → (HasCleanDisk (state g mid) → (state g mid).now ≡ (state g old).now) → OnAnswer {E = Fault} g old mid (Ok version) AnswersVersion → HasOnlyAProject (state g mid).now.schema
     → (r : Result (Option World) Fault) → FindsTheirs g mid new r → FindsAlone g old new r
-alone_found g old mid new version is before same answers only r finds clean world stands =
-    let there = same (before clean) in
-    let of : Some world.version ≡ Some present_version = sym ((answers (before clean)).of_world world stands) ∙ is in
-    let known : IsUpToDate world = cc in
-    IfOk-weaker r _ _ (λ found theirs. alone_of (state g old).now (subst (λ (db : Database). HasOnlyAProject db.schema) there only) found (subst (λ (db : Database). IfSome found (Refines db)) there theirs))
-    (finds clean world (subst (λ (db : Database). Refines db world) (sym there) stands) known)
+alone_found g old mid new version is before same answers only r finds = record {
+  only = λ clean. if_found _ (subst (λ (db : Database). HasOnlyAProject db.schema) (same (before clean)) only) r;
+  theirs = λ clean world stands.
+      let there = same (before clean) in
+      let of : Some world.version ≡ Some present_version = sym ((answers (before clean)).of_world world stands) ∙ is in
+      let known : IsUpToDate world = cc in
+      subst (λ (db : Database). IfOk r (λ found. IfSome found (Refines db))) there
+      (finds clean world (subst (λ (db : Database). Refines db world) (sym there) stands) known);
+}

@@ -1,6 +1,5 @@
 -- Which world is loaded for a refill.
 use Rattle.std.specs.Prelude.{◌≡◌, ⊤, All, IfOk, IfSome, IsSomeAnd, Option, Some, Result}
-use Rattle.sqlite.specs.Effect.{Database}
 use Rattle.sqlite.specs.Held.{Held, state}
 use Rattle.sqlite.specs.State.{HasCleanDisk}
 use Rattle.sqlite.specs.Store.{Ghosts}
@@ -31,13 +30,11 @@ abbrev pub FindsTheirs : {S : Type 0} → Ghosts S → Held S → Held S → Res
 FindsTheirs g old new result =
     HasCleanDisk (state g new) → (world : World) → Refines (state g old).now world → IsUpToDate world → IfOk result (λ found. IfSome found (Refines (state g old).now))
 
--- The tables represent this world, and all that the database has is a project's.
-pub record IsAlone (db : Database) (world : World) : Type 0 where
-  pub stands : Refines db world
-  pub only : HasOnlyAProject db.schema
-
--- On a clean disk, if the tables represent a world, a world that is found is one that they represent, and all that the
--- database has is a project's.
-abbrev pub FindsAlone : {S : Type 0} → Ghosts S → Held S → Held S → Result (Option World) Fault → Type 0
-FindsAlone g old new result =
-    HasCleanDisk (state g new) → (world : World) → Refines (state g old).now world → IfOk result (λ found. IfSome found (IsAlone (state g old).now))
+-- Which world is found of a database, on a clean disk.
+pub record FindsAlone {S : Type 0} (g : Ghosts S) (old new : Held S) (result : Result (Option World) Fault) : Type 0 where
+  -- If a world is found, all that the database has is a project's.
+  pub only : HasCleanDisk (state g new) → IfOk result (λ found. IfSome found (λ _. HasOnlyAProject (state g old).now.schema))
+  -- If the tables represent a world, a world that is found is one that they represent.
+  pub theirs :
+      HasCleanDisk (state g new) → (world : World) → Refines (state g old).now world
+      → IfOk result (λ found. IfSome found (Refines (state g old).now))

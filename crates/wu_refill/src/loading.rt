@@ -77,8 +77,8 @@ pub fn load_alone<S: Alter>(
     ensures fault { IfErr result IsStoreFault }
     // A world that is returned is one that changes make of an empty one.
     ensures may { IfOk result (λ found. IfSome found MayBeRefilled) }
-    // If the tables represent a world, they represent the one that is returned, and all that the
-    // database has is a project's.
+    // If a world is returned, all that the database has is a project's; and if the tables represent
+    // a world, they represent the one that is returned.
     ensures found { FindsAlone S.Store conn.old conn.new result }
 {
     let version = version_of(conn)?;

@@ -77,8 +77,8 @@ pub fn create_filled<S: Alter>(
     // Afterwards the connection is not inside a transaction.
     ensures mode { conn.new.in_transaction ≡ false }
     // With Ok, none of a project's names was taken. The tables represent the world, and that is
-    // committed; all else is as it was. The connection is open, and a crash leaves only these
-    // tables.
+    // committed. The tables of other programs stay, if they have no foreign key. The connection is
+    // open, and a crash leaves only these tables.
     ensures done { Commits S.Store conn.old conn.new result (MakesFilled world.now) }
     // Each fault is one of the store: `Memory`, `Broken` or `NotAProject`.
     ensures told { IfErr result IsStoreFault }

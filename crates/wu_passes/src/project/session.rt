@@ -302,12 +302,12 @@ impl<S: Alter> Project<S> {
         ensures refused { IsSessionOpen self.old
             → RefusesEarly self.old self.new command.now result }
         // An answer is the machine's reply, and the tables then represent the machine's step. A
-        // crash then leaves only that, and the tables of other programs stay, if they have no
-        // foreign key; or nothing is made, and all is as it was. A fault is the
+        // crash then leaves only that; or nothing is made, and all is as it was. A fault is the
         // machine's refusal, or one of the store, and the tables represent the same world while the
         // connection is open. A crash then leaves what it could have left before or, if the session
-        // ended, the step. If a crash could leave only that world before, then after a fault too,
-        // while the connection is open.
+        // ended, the step. Wherever the step is, the tables of other programs stay, if they have no
+        // foreign key. If a crash could leave only that world before, then after a fault too, while
+        // the connection is open.
         ensures runs { IsSessionOpen self.old → RunsOver self.old self.new command.now result }
         // Without a limit on steps, a fault that ends the session is `Broken` of a failed disk or
         // of a connection that was not open. Or it is `Memory` or `Broken` of a command of which

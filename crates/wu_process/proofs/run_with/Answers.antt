@@ -6,7 +6,7 @@ use Rattle.wu_process.proofs.run_with.Goals as goal
 pub returns-in-Ok : goal.returns-in-Ok
 returns-in-Ok g c =
     let short : vec_len c.in-Ok.words ≤ 1 = subst (λ n. n ≤ 1) c.len.ensures c.if-len-le1.true in
-    rw c.in-Ok.is (inl (short, c.demonstrate.ensures, refl, refl))
+    rw c.in-Ok.is (inl (short, c.demonstrate.ensures, refl, refl, (refl, refl)))
 
 pub returns-in-Ok-2 : goal.returns-in-Ok-2
 returns-in-Ok-2 g c =
@@ -15,4 +15,4 @@ returns-in-Ok-2 g c =
     rw c.in-Ok.is (inr (long, ran))
 
 pub returns-in-Err : goal.returns-in-Err
-returns-in-Err g c = rw c.in-Err.is (rw c.unheard.ensures at c.ended.ensures.tells, refl, refl)
+returns-in-Err g c = rw c.in-Err.is (rw c.unheard.ensures at c.ended.ensures.tells, refl, refl, c.ended.ensures.same)

@@ -37,4 +37,4 @@ returns-in-Ok-Lint g c =
 pub returns-in-Ok-Session : goal.returns-in-Ok-Session
 returns-in-Ok-Session g c =
     let ordered : IsOrderOf (map string_bytes c.args.words.now) (order.Session c.in-Ok-Session.path) = search rules in
-    (c.in-Ok-Session.path, ordered, rw c.as_str-in-Ok-Session.ensures at c.hold_session-done.ensures)
+    (c.in-Ok-Session.path, ordered, rw c.as_str-in-Ok-Session.ensures at c.hold_session-done.ensures.serves, c.hold_session-done.ensures.silent)

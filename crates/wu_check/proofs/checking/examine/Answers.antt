@@ -4,6 +4,7 @@ use Rattle.std.specs.Prelude.{IsNone, sum_by}
 use Rattle.wu_check.specs.Findings.{IsBasis, IsBasisLater, IsJudged, Judges, Says}
 use Rattle.wu_check.specs.Examining.{Examines}
 use Rattle.wu_tables.specs.Upgrades.{HasFreeNames, TakesUpgradeName}
+use Rattle.wu_check.specs.declared.finding.Counts.{Counts}
 use Rattle.wu_check.specs.declared.finding.Finding.{Finding}
 use Rattle.wu_check.specs.declared.finding.Finding.TheVariants as finding
 use Rattle.wu_check.specs.declared.finding.Verdict.TheVariants as verdict
@@ -69,8 +70,9 @@ pub returns-clause-examines : goal.returns-clause-examines
 returns-clause-examines g c =
     let now = (state g.S.Store c.args.conn.now).now in
     let version = c.version.ensures ∙ sym c.version-2.ensures in
-    examines_seen g.S.Store c.args.conn.now c.judge_world.new.conn _ c.in_ok-finding.field-0 (verdict.Sound c.version-2.result (length c.workunits.result.now) c.instances_in.result) Says
-    (λ same h. judged_sound now c.in-World.loaded h.0 (subst (Judges now c.in-World.loaded) c.in_default.is h.1) c.version-2.result (length c.workunits.result.now) c.instances_in.result
+    let counts : Counts = record { version = c.version-2.result; workunits = length c.workunits.result.now; results = c.instances_in.result } in
+    examines_seen g.S.Store c.args.conn.now c.judge_world.new.conn _ c.in_ok-finding.field-0 (verdict.Sound counts) Says
+    (λ same h. judged_sound now c.in-World.loaded h.0 (subst (Judges now c.in-World.loaded) c.in_default.is h.1) counts
     (c.version-2.ensures, ap (λ (ws : List Workunit). length ws) c.workunits.ensures, c.instances_in.ensures ∙ ap (λ (ws : List Workunit). sum_by (λ (w : Workunit). length w.instances) ws) c.workunits-2.ensures)
     (subst (HasFreeNames now.schema) version (subst (λ (s : Schema). HasFreeNames s c.version.result) (c.schema.ensures.value ∙ ap (λ (db : Database). db.schema) same) c.in_default-taken_name.ensures.free)))
     (judged g (goal.at.returns-clause-examines g c).After-taken_name)

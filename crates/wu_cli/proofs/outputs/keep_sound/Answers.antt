@@ -1,7 +1,7 @@
 use Rattle.std.proofs.Common.{◌≡◌, Err, Ok, Result, rules, subst, sym}
 use Rattle.std.specs.Prelude.{MatchResult}
 use Rattle.wu_cli.specs.Outputs.{KeepsOutputs}
-use Rattle.wu_cli.specs.declared.backup.Counts.{Counts}
+use Rattle.wu_check.specs.declared.finding.Counts.{Counts}
 use Rattle.wu_cli.specs.declared.trouble.Trouble.{Trouble}
 use Rattle.wu_cli.proofs.TroubleLemmas.{handed_on}
 use Rattle.wu_cli.proofs.outputs.keep_sound.Goals as goal

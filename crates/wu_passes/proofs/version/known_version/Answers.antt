@@ -1,8 +1,9 @@
 use Rattle.std.proofs.Common.{◌≡◌, ◌<◌, Some, arith, inr, sym, ◌∙◌, rules}
 use Rattle.wu_core.specs.declared.fault.Fault.TheVariants.{Broken}
 use Rattle.wu_machine.specs.Machine.{present_version}
-use Rattle.wu_plans.proofs.AskLemmas.{asks_handed, asks_made}
+use Rattle.wu_plans.proofs.AskLemmas.{asks_handed, asks_made, handed_is}
 use Rattle.wu_plans.proofs.ExitLemmas.{handed_other, serves_handed, serves_open}
+use Rattle.wu_passes.proofs.AdoptingLemmas.{row_absent, row_known, row_later, row_unread}
 use Rattle.wu_passes.proofs.version.known_version.Goals as goal
 
 pub returns-in_default-clause-reads : goal.returns-in_default-clause-reads
@@ -55,3 +56,19 @@ returns-in_err-check_version-clause-opens g c clean = serves_open c.from_residua
 
 pub returns-clause-opens : goal.returns-clause-opens
 returns-clause-opens g c = c.in_ok-version.ensures.opens
+
+pub returns-clause-found : goal.returns-clause-found
+returns-clause-found g c clean = row_known _ c.in_ok-version.field-0 c.in-Some.version c.in-Some.is (c.in_ok-version.ensures.answers clean) c.in_ok-check_version.ensures.known
+
+pub returns-in_default-clause-later : goal.returns-in_default-clause-later
+returns-in_default-clause-later g c clean = row_absent _ _ c.in_ok-version.field-0 c.in_default.is (c.in_ok-version.ensures.answers clean)
+
+pub returns-in_err-version-clause-later : goal.returns-in_err-version-clause-later
+returns-in_err-version-clause-later g c clean =
+    rw (handed_is c.from_residual.result c.in_err-version.field-0.0 c.from_residual.ensures.1)
+    (row_unread _ _ c.in_err-version.field-0.0 c.in_err-version.ensures.told (c.in_err-version.ensures.refuses clean))
+
+pub returns-in_err-check_version-clause-later : goal.returns-in_err-check_version-clause-later
+returns-in_err-check_version-clause-later g c clean =
+    rw (handed_is c.from_residual-in_err-check_version.result c.in_err-check_version.field-0.0 c.from_residual-in_err-check_version.ensures.1)
+    (row_later _ _ c.in_ok-version.field-0 c.in-Some.version c.in_err-check_version.field-0.0 c.in-Some.is (c.in_ok-version.ensures.answers clean) c.in_err-check_version.ensures.later)

@@ -2,7 +2,7 @@ use Rattle.std.proofs.Common.{◌≡◌, Err, Ok, Option, Result, refl, rules, s
 use Rattle.std.specs.Prelude.{MatchResult}
 use Rattle.wu_core.specs.World.{World}
 use Rattle.wu_core.specs.declared.fault.Fault.{Fault}
-use Rattle.wu_cli.specs.declared.backup.Counts.{Counts}
+use Rattle.wu_check.specs.declared.finding.Counts.{Counts}
 use Rattle.wu_cli.specs.declared.trouble.Trouble.{Trouble}
 use Rattle.wu_cli.specs.declared.trouble.Trouble.TheVariants as trouble
 use Rattle.wu_cli.proofs.TroubleLemmas.{handed_on}
@@ -35,6 +35,7 @@ returns-in_err-world-clause-checks g c =
       loads = record {
         world = c.load_if.result;
         asks = c.load_if.ensures.asks;
+        fault = c.load_if.ensures.fault;
         found = c.load_if.ensures.found;
         gives = subst (λ (r : Result (Option World) Fault). MatchResult r (λ it. done ≡ Ok (record { counts = c.in_ok-counts.counts; world = it })) (λ why. done ≡ Err (trouble.Fault why))) (sym is) told;
       };
@@ -48,6 +49,7 @@ returns-clause-checks g c = record {
   loads = record {
     world = Ok c.in_ok-world.world;
     asks = c.in_ok-world.ensures.asks;
+    fault = c.in_ok-world.ensures.fault;
     found = c.in_ok-world.ensures.found;
     gives = refl;
   };

@@ -1,5 +1,8 @@
 use Rattle.std.proofs.Common.{◌≡◌, Ok, Err, Result, inl, rules, subst, sym}
 use Rattle.sqlite_disk.specs.declared.memory.Memory.{Memory}
+use Rattle.std.specs.Prelude.{IfOk, false}
+use Rattle.wu_cli.specs.LogNames.{names_log}
+use Rattle.wu_cli.specs.declared.backup.Unmade.{Unmade}
 use Rattle.wu_cli.specs.declared.trouble.Trouble.{Trouble}
 use Rattle.wu_process.specs.Backups.{EndsBackup}
 use Rattle.wu_process.specs.declared.backup.Folded.{Folded}
@@ -12,6 +15,7 @@ returns-in_err-folded g c =
     let is : c.fold.result ≡ Err c.in_err-folded.field-0.0 = search rules in
     let told : made ≡ Err c.in_err-folded.field-0.0 = handed_on made _ c.from_residual.ensures.1 in
     inl (record {
+      own_name = subst (λ (r : Result (Unit {0}) Unmade). IfOk r (λ _. names_log c.args.to.now ≡ false)) c.in_default.is c.refuse_path.ensures;
       files = c.in-Ok.files;
       copy = c.in-Ok.ensures;
       folded = c.fold.result;
@@ -23,6 +27,7 @@ pub returns : goal.returns
 returns g c =
     let is : c.fold.result ≡ Ok c.in_ok-folded.folded = search rules in
     inl (record {
+      own_name = subst (λ (r : Result (Unit {0}) Unmade). IfOk r (λ _. names_log c.args.to.now ≡ false)) c.in_default.is c.refuse_path.ensures;
       files = c.in-Ok.files;
       copy = c.in-Ok.ensures;
       folded = c.fold.result;

@@ -11,6 +11,7 @@ returns-in-Ok-clause-does g c = inl (record {
   idle = elim (cases_Bool c.args.conn.in_transaction) [ inl busy ↦ absurd (let no = c.in-Ok.ensures.busy busy in cc) | inr idle ↦ idle ];
   begins = c.in-Ok.ensures.begins;
   adopts = c.in-Ok.ensures.adopted;
+  version = c.in-Ok.ensures.version;
   knows = c.in-Ok.ensures.knows;
   does = c.perform-done.ensures;
   released = c.release.ensures.same;

@@ -1,6 +1,6 @@
 use Rattle.std.proofs.Common.{ap}
 use Rattle.wu_cli.specs.declared.trouble.Trouble.TheVariants as trouble
-use Rattle.wu_process.proofs.check.open_copy.Goals as goal
+use Rattle.wu_process.proofs.opening.open_copy.Goals as goal
 
 pub returns-in-Ok : goal.returns-in-Ok
 returns-in-Ok g c = record {
