@@ -66,9 +66,9 @@ use Rattle.wu_process.specs.declared.End.{End}
 use Rattle.wu_process.specs.declared.database.LeftDatabase.{LeftDatabase}
 use Rattle.wu_process.specs.declared.database.LeftDatabase.TheVariants as left
 use Rattle.wu_lives.specs.Runs.{HoldsWorld}
-use Rattle.wu_process_laws.proofs.Leaving.{all_hold, begins_from, copied_each, goes_from}
+use Rattle.wu_process_laws.proofs.Leaving.{all_hold, begins_from, copied_each, goes_from, leaves_its_work}
 use Rattle.wu_process_laws.specs.Runs.{HoldAfter, ImageRefines, LeavesAsItWas, OfEachImage}
-use Rattle.wu_process_laws.specs.SessionRuns.{AskedDid, AsksOfHeard, InputDid, LeavesItsLines, LeavesSession, LineDid, LinesDid}
+use Rattle.wu_process_laws.specs.SessionRuns.{AskedDid, AsksOfHeard, GoesOnFrom, InputDid, LeavesItsLines, LeavesSession, LineDid, LinesDid, SessionsBeginWhereOneEnded}
 
 -- ---- the machine over two lists
 
@@ -433,3 +433,26 @@ module _ {S W E : Type 0} {c : calls.Ghosts Host} {s : start.Ghosts S} {g : Disk
       subst (λ l. ServesAt {g = g} contents it.path run.old run.new run.in_old run.in_new it.done l) run.closed it.runs in
       served_left stays contents may_hold (MakesExport may_become may_become) it.path opens.conn opens.again run.old run.new run.in_old run.in_new run.files opens.opened (opens.closed.copied honest) it.done end.status opens.serves
       (served_status told_of it.err_mid run.err_new it.done end.left end it.ends) world project start
+
+-- ---- one after another
+
+module _ {S T W E : Type 0} {c d : calls.Ghosts Host} {s : start.Ghosts S} {t : start.Ghosts T} {g : DiskGhosts (Modelled Host S c s)} {h : DiskGhosts (Modelled Host T d t)} (still : SeenMayStay h)
+    (contents : W → Option (List ℕ)) (told_of : E → Option (List ℕ)) (first : End (Modelled Host S c s) g) (second : End (Modelled Host T d t) h) where
+  -- a run over files that hold a world goes on from it
+  goes_on_from : (world : World) → IsProject world → HoldsWorld (image_at t) world → GoesOnFrom contents told_of first second world
+  goes_on_from world project held = record {
+    line = λ two honest. leaves_its_work still contents told_of second two honest world project (inl held);
+    session = λ two honest. leaves_its_lines still contents told_of second two honest world project (inl held);
+  }
+
+  pub sessions_begin_where_one_ended : SessionsBeginWhereOneEnded contents told_of first second
+  sessions_begin_where_one_ended = record {
+    after_session = λ one may. record {
+      done = λ world it. ∥∥₁_map (it.held (image_at t) may) (λ after. goes_on_from _ after.project after.held);
+      kept = λ world project held it. ∥∥₁_map (it.held held (image_at t) may) (λ there. goes_on_from world project there);
+    };
+    after_run = λ one may. record {
+      done = λ world it. ∥∥₁_map (it.held (image_at t) may) (λ after. goes_on_from _ after.project after.held);
+      kept = λ world project held it. ∥∥₁_map (it.held held (image_at t) may) (λ there. goes_on_from world project there);
+    };
+  }

@@ -6,11 +6,11 @@ use Rattle.sqlite_disk.specs.declared.calls.Calls as calls
 use Rattle.sqlite_disk.specs.declared.modelled.Modelled.{Modelled}
 use Rattle.sqlite_disk.specs.declared.start.Start as start
 use Rattle.sqlite_std_file.specs.declared.host.Host.{Host}
-use Rattle.sqlite_wal.specs.Files.{image_at}
+use Rattle.sqlite_wal.specs.Files.{image_at, outcomes}
 use Rattle.sqlite_wal.specs.Reads.{AreClean}
 use Rattle.wu_core.specs.World.{World}
 use Rattle.wu_core.specs.declared.fault.Fault.{Fault}
-use Rattle.wu_drive.specs.Driving.{AnswerAll}
+use Rattle.wu_drive.specs.Driving.{AnswerAll, world_after}
 use Rattle.wu_machine.specs.Commands.{request_of}
 use Rattle.wu_machine.specs.Machine.{fold_steps}
 use Rattle.wu_machine.specs.Sound.{IsProject}
@@ -29,6 +29,7 @@ use Rattle.wu_cli.specs.Repeating.{commands_of_steps, RanAs, unrolled}
 use Rattle.wu_cli.specs.Sessions.{ExportsThen, ready_line, ScriptOfText}
 use Rattle.wu_cli.specs.Telling.{TellsSteps}
 use Rattle.wu_cli.specs.Trying.{RanStep}
+use Rattle.wu_cli.specs.Working.{commands_of_work}
 use Rattle.wu_cli.specs.declared.line_trouble.LineTrouble.{LineTrouble}
 use Rattle.wu_cli.specs.declared.line_trouble.LineTrouble.TheVariants as line
 use Rattle.wu_process.specs.Asking.{may_hold}
@@ -37,7 +38,8 @@ use Rattle.wu_process.specs.Exports.{MakesExport}
 use Rattle.wu_process.specs.Serving.{HoldsSession}
 use Rattle.wu_process.specs.declared.End.{End}
 use Rattle.wu_process.specs.declared.database.LeftDatabase.TheVariants as left
-use Rattle.wu_process_laws.specs.Runs.{HoldAfter, ImageRefines, LeavesAsItWas, OfEachImage}
+use Rattle.wu_lives.specs.Runs.{HoldsWorld}
+use Rattle.wu_process_laws.specs.Runs.{ClosedRun, DoesNext, done_by, HoldAfter, ImageRefines, LeavesAsItWas, LeavesDone, OfEachImage}
 
 -- ---- one line
 
@@ -149,3 +151,41 @@ module _ {S W E : Type 0} {c : calls.Ghosts Host} {s : start.Ghosts S} {g : Ghos
       (run : ClosedSession end) → AreClean g run.files.log run.files.db → (world : World) → IsProject world → ImageRefines (image_at s) world
       → LeavesSession g run.files contents may_hold (MakesExport may_become may_become) run.session.path world run.old run.new run.in_old run.in_new
       ⊎ LeavesAsItWas g run.files (image_at s) (contents run.old) (contents run.new) world end.status
+
+-- ---- one after another
+
+module _ {S T W E : Type 0} {c d : calls.Ghosts Host} {s : start.Ghosts S} {t : start.Ghosts T} {g : Ghosts (Modelled Host S c s)} {h : Ghosts (Modelled Host T d t)} (contents : W → Option (List ℕ)) (told_of : E → Option (List ℕ))
+    (first : End (Modelled Host S c s) g) (second : End (Modelled Host T d t) h) where
+  -- Over this world, a session that was the second run did what its lines did, or adopted no project.
+  abbrev pub ServesNext : ClosedSession contents told_of second → World → Type 0
+  ServesNext run world =
+      LeavesSession h run.files contents may_hold (MakesExport may_become may_become) run.session.path world run.old run.new run.in_old run.in_new
+      ⊎ LeavesAsItWas h run.files (image_at t) (contents run.old) (contents run.new) world second.status
+
+  -- The second run went on from this world, where the disk is clean at its end: a line or a script, or a session.
+  pub record GoesOnFrom (world : World) : Type 0 where
+    pub line : (two : ClosedRun contents told_of second) → AreClean h two.files.log two.files.db → DoesNext contents told_of first second two (done_by contents told_of second two).work world
+    pub session : (two : ClosedSession contents told_of second) → AreClean h two.files.log two.files.db → ServesNext two world
+
+  -- The second run went on from the world that a session left: the one after what its lines did, or the one before it.
+  pub record GoesAfterSession (one : ClosedSession contents told_of first) : Type 0 where
+    pub done :
+        (world : World) (it : LeavesSession g one.files contents may_hold (MakesExport may_become may_become) one.session.path world one.old one.new one.in_old one.in_new)
+        → ∥ GoesOnFrom (world_after world it.commands (length it.commands)) ∥₁
+    pub kept :
+        (world : World) → IsProject world → HoldsWorld (image_at s) world
+        → LeavesAsItWas g one.files (image_at s) (contents one.old) (contents one.new) world first.status → ∥ GoesOnFrom world ∥₁
+
+  -- The second run went on from the world that a line or a script left: the one after what it did, or the one before it.
+  pub record GoesAfterRun (one : ClosedRun contents told_of first) : Type 0 where
+    pub done :
+        (world : World) (it : LeavesDone g one.files HoldAfter (contents one.old) (contents (done_by contents told_of first one).runs.mid) world (done_by contents told_of first one).work first.status)
+        → ∥ GoesOnFrom (world_after world (commands_of_work world (done_by contents told_of first one).work it.ran) it.count) ∥₁
+    pub kept :
+        (world : World) → IsProject world → HoldsWorld (image_at s) world
+        → LeavesAsItWas g one.files (image_at s) (contents one.old) (contents (done_by contents told_of first one).runs.mid) world first.status → ∥ GoesOnFrom world ∥₁
+
+  -- If the second run begins over what a crash left of the first, of which one was a session, it goes on from there.
+  pub record SessionsBeginWhereOneEnded : Type 0 where
+    pub after_session : (one : ClosedSession contents told_of first) → outcomes g one.files.log one.files.db (image_at t) → GoesAfterSession one
+    pub after_run : (one : ClosedRun contents told_of first) → outcomes g one.files.log one.files.db (image_at t) → GoesAfterRun one

@@ -6,7 +6,7 @@ ghost use Rattle.wu_process_laws.specs.BackedUp.{EachBackupHolds};
 ghost use Rattle.wu_process_laws.specs.Checked.{EachCheckIsTrue};
 ghost use Rattle.wu_process_laws.specs.KeptOutputs.{EachNameHasItsFile, EachOutputBeforeHasItsFile, EachOutputHasItsFile};
 ghost use Rattle.wu_process_laws.specs.Runs.{BeginsWhereOneEnded, BeginsWhereOneStopped, LeavesItsWork, LeavesItsWorkUnclosed};
-ghost use Rattle.wu_process_laws.specs.SessionRuns.{LeavesItsLines};
+ghost use Rattle.wu_process_laws.specs.SessionRuns.{LeavesItsLines, SessionsBeginWhereOneEnded};
 
 use sqlite::{FileFrom, Start};
 use std::io::{self, BufRead, Write};
@@ -59,6 +59,17 @@ pub fn a_run_begins_where_one_stopped<S: Start, T: Start, O: Write, E: Write>(
     // So does a second run after one whose close failed; the world may then have the command that
     // was cut.
     ensures { BeginsWhereOneStopped O.contents E.contents first.now second.now }
+{}
+
+/// Shows that a run over what a crash left of a session's database goes on from the world that the session left; and that
+/// a session does so over what a line, a script or another session left.
+pub fn sessions_begin_where_one_ended<S: Start, T: Start, O: Write, E: Write>(
+    first: &End<FileFrom<S>>,
+    second: &End<FileFrom<T>>,
+)
+    // A second run over what a crash left of a first one does its work over the world that the
+    // first left, whichever of them is a session.
+    ensures { SessionsBeginWhereOneEnded O.contents E.contents first.now second.now }
 {}
 
 /// Does what the words of a process ask for, as `run_with`. Where it closed its database, that holds the world after a
