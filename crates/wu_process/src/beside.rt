@@ -76,18 +76,6 @@ pub fn may_have_log(rt: &HostRuntime, path: &str) -> bool {
     }
 }
 
-/// Removes the log without a page that a refused opening made, if none was there before.
-pub fn take_log_back(rt: &HostRuntime, path: &str, had_log: bool) {
-    if had_log {
-        return;
-    }
-    if let Some(log) = log_of(rt, path) {
-        if len_at(rt, log.as_str()) < SHORTEST_LOG {
-            let _ = fs::remove_file(rt, log.as_str());
-        }
-    }
-}
-
 /// Returns whether what lies at the path itself is no file, as a folder, a pipe or a link.
 fn is_other(rt: &HostRuntime, path: &str) -> bool {
     fs::symlink_metadata(rt, path).is_ok_and(|found| !found.is_file())
@@ -117,6 +105,27 @@ pub fn is_emptied(rt: &HostRuntime, path: &str) -> Result<bool, AllocError> {
 fn may_be_unmade(bytes: &[u8]) -> bool {
     bytes.first() == Some(&0)
         && (bytes.ends_with(HEADER_REST) || bytes.iter().all(|byte| *byte == 0))
+}
+
+/// Returns whether what lies at the path may be what a stop left of a new database, as far as that can be found out.
+fn is_unmade(rt: &HostRuntime, path: &str) -> bool {
+    match HostFiles::new(rt).read(path, HEADER_REST.len()) {
+        Ok(Some(bytes)) => may_be_unmade(&bytes),
+        _ => true,
+    }
+}
+
+/// Removes the log without a page that a refused opening made, if none was there before. Beside what a stop left of a new
+/// database it stays: without it that would be a file of something else.
+pub fn take_log_back(rt: &HostRuntime, path: &str, had_log: bool) {
+    if had_log || is_unmade(rt, path) {
+        return;
+    }
+    if let Some(log) = log_of(rt, path) {
+        if len_at(rt, log.as_str()) < SHORTEST_LOG {
+            let _ = fs::remove_file(rt, log.as_str());
+        }
+    }
 }
 
 /// Returns whether the file at the path begins as no database does. An empty file can become one. So can what a stop left
