@@ -4,7 +4,7 @@ use Rattle.sqlite.specs.State.{IsLive}
 use Rattle.std.specs.Prelude.{IfSome}
 use Rattle.std.proofs.lemmas.Result.{IfOk-weaker}
 use Rattle.wu_core.specs.declared.fault.Fault.TheVariants.{Memory, NotAProject}
-use Rattle.wu_loader.specs.Asked.{IsAnsweredUnlessFailed, Looks}
+use Rattle.wu_loader.specs.Asked.{IsAnsweredUnlessFailed, LooksAtTables}
 use Rattle.wu_loader.specs.Finding.{FindsNone, FindsRow, FindsWorld}
 use Rattle.wu_schema.specs.Faults.{IsFailure, IsStoreFault}
 use Rattle.wu_store.specs.StandsFor.{IsQueued}
@@ -161,7 +161,7 @@ never_failed (inr is) = absurd cc
 
 module _ {S : Type 0} (g : Ghosts S) (a b : Held S) where
   abbrev LooksForSums : Result (Option OtherSums) Fault → Type 0
-  LooksForSums r = (version : ℕ) → Looks version g a b r (λ db trees found. IfSome found (ShowsOtherSums db.trees trees))
+  LooksForSums r = (version : ℕ) → LooksAtTables version g a b r (λ db trees found. IfSome found (ShowsOtherSums db.trees trees))
 
   says_sums : (wrong : WrongRow) → wrong.table ≡ loaded.Host → (found : Option OtherSums) → LooksForSums (Ok found) → HasCleanDisk (state g b) → IsLegible (state g a).now → SumsIn wrong (state g a).now found
   says_sums wrong of_host None it clean legible row = tt
@@ -221,11 +221,11 @@ module _ {S : Type 0} (version : ℕ) (g : Ghosts S) (a b c : Held S) (loaded : 
 -- ---- the version that is told
 
 module _ {S : Type 0} (g : Ghosts S) (a b : Held S) (trees : ProjectTrees) (tables : HasTables 1 (state g a).now.schema trees) where
-  says_version : (r : Result ℕ Fault) → Looks 1 g a b r (λ db trees version. IsReadVersion db version) → HasCleanDisk (state g b) → IsLegible (state g a).now → IfOk r (IsReadVersion (state g a).now)
+  says_version : (r : Result ℕ Fault) → LooksAtTables 1 g a b r (λ db trees version. IsReadVersion db version) → HasCleanDisk (state g b) → IsLegible (state g a).now → IfOk r (IsReadVersion (state g a).now)
   says_version (Ok version) it clean legible = it.says clean trees (record { tables = tables; arranged = legible.plain trees tables })
   says_version (Err fault) it clean legible = tt
 
-  pub examines_version : (r : Result ℕ Fault) → Looks 1 g a b r (λ db trees version. IsReadVersion db version) → Examines g a b r IsReadVersion
+  pub examines_version : (r : Result ℕ Fault) → LooksAtTables 1 g a b r (λ db trees version. IsReadVersion db version) → Examines g a b r IsReadVersion
   examines_version r it = record {
     asks = it.asks;
     says = says_version r it;

@@ -2,11 +2,11 @@
 use Rattle.wu_schema.proofs.Words.{Database, HasTables, ProjectTrees, ℕ}
 use Rattle.wu_schema.proofs.StandsLemmas.{is_there}
 use Rattle.wu_loader.specs.Shown.{AreArranged}
-use Rattle.wu_check.specs.Checking.{IsKept}
+use Rattle.wu_check.specs.Checking.{IsWellKept}
 use Rattle.wu_check.specs.Examining.{IsLegible}
 
 -- questions show all that is in them
-pub legible_of : (db : Database) → IsKept db → IsLegible db
+pub legible_of : (db : Database) → IsWellKept db → IsLegible db
 legible_of db kept = record {
   plain = arranged 1;
   project = λ version told. arranged version;

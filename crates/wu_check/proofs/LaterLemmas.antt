@@ -7,8 +7,8 @@ use Rattle.wu_schema.proofs.VersionLemmas.{project_of, project_row}
 use Rattle.wu_schema.specs.Asking.{Asks}
 use Rattle.wu_schema.specs.Calls.{OnAnswer}
 use Rattle.wu_schema.specs.Versions.{project_cells, rows_of_project, AnswersVersion, AreOfVersion, HasColumn, RefusesVersion}
-use Rattle.wu_check.specs.Checking.{IsKnown}
-use Rattle.wu_check.specs.Findings.{HasOtherVersion, TellsLater, TellsUnknown}
+use Rattle.wu_check.specs.Checking.{IsKnownVersion}
+use Rattle.wu_check.specs.Findings.{HasOtherVersion, TellsLaterFirst, TellsUnknown}
 use Rattle.wu_check.specs.Versions.{IsVersionOf}
 use Rattle.wu_check.specs.declared.finding.Finding.{Finding}
 use Rattle.wu_check.specs.declared.finding.Finding.TheVariants as finding
@@ -27,16 +27,16 @@ told_is db found answers has version (positive, of) = go (answers.of_row has)
     go : (v : ℕ) × (found ≡ Some v) × HasVersion db has v → found ≡ Some version
     go (v, at, (first, there)) = at ∙ ap Some (one_version (rows_of_project db has) v version there of)
 
-pub told_later : (limit : Option ℕ) (db : Database) (v : ℕ) → AnswersVersion db (Some v) → TellsLater limit db (finding.Version v)
+pub told_later : (limit : Option ℕ) (db : Database) (v : ℕ) → AnswersVersion db (Some v) → TellsLaterFirst limit db (finding.Version v)
 told_later limit db v answers unlimited has version told later = ap finding.Version (same_some (told_is db (Some v) answers has version told))
 
 -- none is later where that is no version, or one that is known
-pub known_later : (limit : Option ℕ) (db : Database) (found : Option ℕ) → AnswersVersion db found → IfSome found IsKnown → (what : Finding) → TellsLater limit db what
+pub known_later : (limit : Option ℕ) (db : Database) (found : Option ℕ) → AnswersVersion db found → IfSome found IsKnownVersion → (what : Finding) → TellsLaterFirst limit db what
 known_later limit db found answers known what unlimited has version told later =
-    absurd (let it : IsKnown version = subst (λ (o : Option ℕ). IfSome o IsKnown) (told_is db found answers has version told) known in let low = it.present in omega (arith, low, later))
+    absurd (let it : IsKnownVersion version = subst (λ (o : Option ℕ). IfSome o IsKnownVersion) (told_is db found answers has version told) known in let low = it.present in omega (arith, low, later))
 
 -- nor where the question is refused
-pub refused_later : (limit : Option ℕ) (db : Database) → RefusesVersion limit db NotAProject → (what : Finding) → TellsLater limit db what
+pub refused_later : (limit : Option ℕ) (db : Database) → RefusesVersion limit db NotAProject → (what : Finding) → TellsLaterFirst limit db what
 refused_later limit db refuses what unlimited has version told later = absurd (never (refuses.of_row has version told unlimited))
   where
     never : IsFailure NotAProject → ⊥
@@ -67,20 +67,20 @@ version_is : (db : Database) (world : World) → Refines db world → (has : Has
 version_is db world stands has version (positive, of) =
     one_version (rows_of_project db (project_of db world stands)) version world.version (subst (λ rows. AreOfVersion rows version) (same_rows db has (project_of db world stands)) of) (project_row db world stands)
 
-unknown : (version : ℕ) → present_version < version → ¬ IsKnown version
+unknown : (version : ℕ) → present_version < version → ¬ IsKnownVersion version
 unknown version later known = let low = known.present in omega (arith, low, later)
 
 -- what is told of a world of a later version is that version
-pub judged_later : (limit : Option ℕ) (db : Database) (world : World) → Refines db world → (found : Option Finding) → TellsUnknown world found → (what : Finding) → found ≡ Some what → TellsLater limit db what
+pub judged_later : (limit : Option ℕ) (db : Database) (world : World) → Refines db world → (found : Option Finding) → TellsUnknown world found → (what : Finding) → found ≡ Some what → TellsLaterFirst limit db what
 judged_later limit db world stands found tells what is unlimited has version told later =
     let same = version_is db world stands has version told in
-    let it = tells (subst (λ v. ¬ IsKnown v) same (unknown version later)) in
+    let it = tells (subst (λ v. ¬ IsKnownVersion v) same (unknown version later)) in
     same_some (sym is ∙ it) ∙ ap finding.Version (sym same)
 
 -- a world of a known version is of no later one
-pub known_world_later : (limit : Option ℕ) (db : Database) (world : World) → Refines db world → IsKnown world.version → (what : Finding) → TellsLater limit db what
+pub known_world_later : (limit : Option ℕ) (db : Database) (world : World) → Refines db world → IsKnownVersion world.version → (what : Finding) → TellsLaterFirst limit db what
 known_world_later limit db world stands known what unlimited has version told later =
-    absurd (unknown version later (subst IsKnown (sym (version_is db world stands has version told)) known))
+    absurd (unknown version later (subst IsKnownVersion (sym (version_is db world stands has version told)) known))
 
 -- ---- another version than this program knows
 
@@ -88,10 +88,10 @@ known_world_later limit db world stands known what unlimited has version told la
 world_row : (db : Database) (world : World) → Refines db world → (has : HasProject db.schema) → AreOfVersion (rows_of_project db has) world.version
 world_row db world stands has = subst (λ rows. AreOfVersion rows world.version) (same_rows db (project_of db world stands) has) (project_row db world stands)
 
-pub tells_version : (db : Database) (world : World) → Refines db world → ¬ IsKnown world.version → HasOtherVersion db world.version
+pub tells_version : (db : Database) (world : World) → Refines db world → ¬ IsKnownVersion world.version → HasOtherVersion db world.version
 tells_version db world stands other = record { row = world_row db world stands; there = inl (project_of db world stands); other = other }
 
-pub tells_row : (db : Database) (version : ℕ) → AnswersVersion db (Some version) → ¬ IsKnown version → HasOtherVersion db version
+pub tells_row : (db : Database) (version : ℕ) → AnswersVersion db (Some version) → ¬ IsKnownVersion version → HasOtherVersion db version
 tells_row db version answers other = record {
   row = λ has. let it = answers.of_row has in subst (λ n. AreOfVersion (rows_of_project db has) n) (sym (same_some it.1)) it.2.1;
   there = inr (answers.told version refl);

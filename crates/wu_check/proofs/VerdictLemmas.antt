@@ -24,7 +24,7 @@ use Rattle.sqlite_trees.specs.declared.store.Shape.TheVariants as shape
 use Rattle.wu_check.proofs.LaterLemmas.{other_stands}
 use Rattle.wu_check.proofs.VersionLemmas.{fewer_tables, one_table}
 use Rattle.wu_check.specs.Queues.{HasMarks}
-use Rattle.wu_check.specs.Checking.{IsCounted, IsKnown, IsSoundProject}
+use Rattle.wu_check.specs.Checking.{IsCounted, IsKnownVersion, IsSoundProject}
 use Rattle.wu_check.specs.Examining.{IsLegible}
 use Rattle.wu_check.specs.Findings.{HasTakenName, IsJudged, IsRightWorld, IsSoundAs, LacksTables, Says, SaysSound, SaysUnsound, SaysWhy, Tells, TellsOfSound}
 use Rattle.wu_check.specs.declared.finding.Counts.{Counts}
@@ -84,7 +84,7 @@ module _ (any_order : SoundInAnyOrder) (db : Database) (p : IsSoundProject db) w
   refuted (finding.Barred name) told = never_lacks (Missing Project) told.lacks
   refuted (finding.Row wrong) told = told.none p.world (readable p.world p.sound p.known.first) p.stands.refines
   refuted (finding.Sums sums) told = told.row.none p.world (readable p.world p.sound p.known.first) p.stands.refines
-  refuted (finding.Version version) told = told.other (subst IsKnown (other_stands db version told p.world p.stands.refines) p.known)
+  refuted (finding.Version version) told = told.other (subst IsKnownVersion (other_stands db version told p.world p.stands.refines) p.known)
   refuted (finding.World wrong key) told = stands_against told.world wrong told.against (sound_of told.world told.refines)
   refuted finding.Queue told =
       let q = queue_of told.world told.refines told.queued in

@@ -2,7 +2,7 @@
 use Rattle.wu_schema.proofs.Words.{[], ◌∷◌, column, inl, inr, refl, Database, Ghosts, HasNamed, Held, List, Ok, ProjectTrees, Row, Some, Table, Vec, ap, map, slice_get, state, sym, ℕ, ◌∙◌, ◌≡◌, number, subst}
 use Rattle.wu_schema.specs.Tables.{HasTables, IsClassedVersion}
 use Rattle.wu_schema.specs.Versions.{AreOfVersion, project_row}
-use Rattle.wu_loader.specs.Asked.{Looks}
+use Rattle.wu_loader.specs.Asked.{LooksAtTables}
 use Rattle.wu_loader.specs.Shown.{keyed}
 use Rattle.wu_loader.proofs.LookLemmas.{never_broken}
 use Rattle.wu_schema.proofs.AskingLemmas.{asks_made}
@@ -58,7 +58,7 @@ read_of_row rows version tells db trees tables shown = record {
 }
 
 module _ {S A : Type 0} (g : Ghosts S) (a b : Held S) where
-  pub looks_version : (rows : Vec Row A) (version : ℕ) → Looks 1 g a b (Ok rows) (λ db trees shown. shown.items ≡ map (keyed 3) (db.trees trees.project)) → TellVersion rows.items version → Looks 1 g a b (Ok version) (λ db trees version. IsReadVersion db version)
+  pub looks_version : (rows : Vec Row A) (version : ℕ) → LooksAtTables 1 g a b (Ok rows) (λ db trees shown. shown.items ≡ map (keyed 3) (db.trees trees.project)) → TellVersion rows.items version → LooksAtTables 1 g a b (Ok version) (λ db trees version. IsReadVersion db version)
   looks_version rows version it tells = record {
     asks = asks_made g a b rows (Ok version) (never_broken version) it.asks;
     opens = it.opens;

@@ -15,7 +15,7 @@ use Rattle.wu_schema.specs.Tables.{HasNamed, queue_at, workunit_at}
 use Rattle.wu_store.specs.StandsFor.{StandsFor}
 
 -- The program knows this version.
-pub record IsKnown (version : ℕ) : Type 0 where
+pub record IsKnownVersion (version : ℕ) : Type 0 where
   pub first : 1 ≤ version
   pub present : version ≤ present_version
 
@@ -24,7 +24,7 @@ pub record IsSoundProject (db : Database) : Type 0 where
   pub world : World
   pub stands : StandsFor db world
   pub sound : IsSound world
-  pub known : IsKnown world.version
+  pub known : IsKnownVersion world.version
 
 -- What no question can show of a database: that no row of a workunit or of the queue ends before its last column. A row
 -- that was inserted into the table as it is does not. A shorter row is shown with an empty cell there.
@@ -33,11 +33,11 @@ pub record HasWholeRows (db : Database) : Type 0 where
   pub queue : (tree : ℕ) → HasNamed db.schema (codes "queue") (queue_at tree) → AreWhole 6 (db.trees tree)
 
 -- The rows of each table are in order of their rowids, as every store keeps them.
-abbrev pub IsInOrder : Database → Type 0
-IsInOrder db = (table : Table) → Has db.schema.tables table → IsShaped shape.Table (db.trees table.tree)
+abbrev pub HasRowsInOrder : Database → Type 0
+HasRowsInOrder db = (table : Table) → Has db.schema.tables table → IsShaped shape.Table (db.trees table.tree)
 
-pub record IsKept (db : Database) : Type 0 where
-  pub ordered : IsInOrder db
+pub record IsWellKept (db : Database) : Type 0 where
+  pub ordered : HasRowsInOrder db
   pub whole : HasWholeRows db
 
 -- The world has this version, and so many workunits and instances.

@@ -13,14 +13,14 @@ use Rattle.wu_loader.specs.Shown.{AreArranged, AreWhole}
 use Rattle.wu_schema.specs.Refines.{Refines}
 use Rattle.wu_schema.specs.Tables.{HasNamed, HasTables, ProjectTrees, queue_at, workunit_at}
 use Rattle.wu_store.specs.StandsFor.{IsQueued}
-use Rattle.wu_check.specs.Checking.{IsKept}
+use Rattle.wu_check.specs.Checking.{IsWellKept}
 use Rattle.wu_check.specs.Queues.{IsKeptQueue}
 use Rattle.wu_check.specs.Versions.{IsVersionOf}
 
 -- On a clean disk, if the rows of the shown database are in order and whole, this holds of that database and of an
 -- answer.
 abbrev pub OnKept : {S T : Type 0} → Ghosts S → Held S → Held S → Result T Fault → (Database → T → Type 0) → Type 0
-OnKept g old new result Is = HasCleanDisk (state g new) → IsKept (state g old).now → IfOk result (Is (state g old).now)
+OnKept g old new result Is = HasCleanDisk (state g new) → IsWellKept (state g old).now → IfOk result (Is (state g old).now)
 
 -- On a clean disk and without a limit on steps, the only faults are `Memory` and `Broken`.
 abbrev pub AnswersUnlessFailed : {S T : Type 0} → Ghosts S → Held S → Held S → Result T Fault → Type 0

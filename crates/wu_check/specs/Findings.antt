@@ -33,7 +33,7 @@ use Rattle.wu_tables.specs.Upgrades.{HasFreeNames, IsFirstTaken, TakesUpgradeNam
 use Rattle.wu_tables.specs.declared.known.ProjectTable.TheVariants.{Project}
 use Rattle.wu_tables.specs.declared.project.Misfit.{Misfit}
 use Rattle.wu_tables.specs.declared.project.Misfit.TheVariants.{Missing}
-use Rattle.wu_check.specs.Checking.{IsCounted, IsKnown, IsSoundProject}
+use Rattle.wu_check.specs.Checking.{IsCounted, IsKnownVersion, IsSoundProject}
 use Rattle.wu_check.specs.Versions.{IsReadVersion}
 use Rattle.wu_check.specs.declared.finding.Counts.{Counts}
 use Rattle.wu_check.specs.declared.finding.Finding.{Finding}
@@ -120,13 +120,13 @@ pub record HasOtherVersion (db : Database) (version : ℕ) : Type 0 where
   pub row : (has : HasProject db.schema) → AreOfVersion (rows_of_project db has) version
   -- A table `project` is there, or something else of its name shows one such row.
   pub there : HasProject db.schema ⊎ ShowsVersion db version
-  pub other : ¬ IsKnown version
+  pub other : ¬ IsKnownVersion version
 
 -- The tables represent a world of a known version, which is first wrong in this way, at the row with this key.
 pub record HasUnsoundWorld (db : Database) (wrong : Wrong) (row : Key) : Type 0 where
   pub world : World
   pub refines : Refines db world
-  pub known : IsKnown world.version
+  pub known : IsKnownVersion world.version
   pub against : audit.StandsAgainst world wrong
   pub key : IsKeyOf world wrong row
 
@@ -135,7 +135,7 @@ pub record LacksQueue (db : Database) : Type 0 where
   pub world : World
   pub refines : Refines db world
   pub sound : IsSound world
-  pub known : IsKnown world.version
+  pub known : IsKnownVersion world.version
   pub queued : IsQueued world
   pub none : (tree : ℕ) → tables.HasQueueIn db.schema tree → ⊥
 
@@ -145,7 +145,7 @@ pub record HasOtherMarks (db : Database) (place : ℕ) : Type 0 where
   pub world : World
   pub refines : Refines db world
   pub sound : IsSound world
-  pub known : IsKnown world.version
+  pub known : IsKnownVersion world.version
   pub queued : IsQueued world
   pub tree : ℕ
   pub queue : tables.HasQueueIn db.schema tree
@@ -178,8 +178,8 @@ abbrev pub PutsLaterFirst : Database → Finding → Type 0
 PutsLaterFirst db found = (has : HasProject db.schema) (version : ℕ) → HasVersion db has version → present_version < version → found ≡ finding.Version version
 
 -- Without a limit on steps, a later version is reported before all else.
-abbrev pub TellsLater : Option ℕ → Database → Finding → Type 0
-TellsLater limit db found = limit ≡ None → PutsLaterFirst db found
+abbrev pub TellsLaterFirst : Option ℕ → Database → Finding → Type 0
+TellsLaterFirst limit db found = limit ≡ None → PutsLaterFirst db found
 
 -- ---- what a verdict says
 
@@ -212,7 +212,7 @@ SaysWhy db (verdict.Unsound found) = Tells db found
 -- Without a limit on steps, the finding on a project of a later version is that version.
 abbrev pub SaysLater : Option ℕ → Database → Verdict → Type 0
 SaysLater limit db (verdict.Sound counts) = ⊤
-SaysLater limit db (verdict.Unsound found) = TellsLater limit db found
+SaysLater limit db (verdict.Unsound found) = TellsLaterFirst limit db found
 
 -- A sound verdict holds of the database with its numbers, and an unsound one with its finding.
 abbrev pub Says : Database → Verdict → Type 0
@@ -241,22 +241,22 @@ IsBasisOf version db found = HasFirstTables db version → IsBasis db found
 -- Without a limit on steps, the finding on a project of a later version is that version.
 abbrev pub IsBasisLater : Option ℕ → Database → Basis → Type 0
 IsBasisLater limit db (basis.World world) = ⊤
-IsBasisLater limit db (basis.Unsound found) = TellsLater limit db found
+IsBasisLater limit db (basis.Unsound found) = TellsLaterFirst limit db found
 
 -- For a world of a version that the program does not know, that version is the finding.
 abbrev pub TellsUnknown : World → Option Finding → Type 0
-TellsUnknown world found = ¬ IsKnown world.version → found ≡ Some (finding.Version world.version)
+TellsUnknown world found = ¬ IsKnownVersion world.version → found ≡ Some (finding.Version world.version)
 
 -- The world is sound, its version is known, and its queue is there if its version has one.
 pub record IsRightWorld (schema : Schema) (world : World) : Type 0 where
   pub sound : IsSound world
-  pub known : IsKnown world.version
+  pub known : IsKnownVersion world.version
   pub queue : IsQueued world → (tree : ℕ) × tables.HasQueueIn schema tree
 
 -- The world is sound, its version is known, and its queue has the marks of its workunits.
 pub record IsJudged (db : Database) (world : World) : Type 0 where
   pub sound : IsSound world
-  pub known : IsKnown world.version
+  pub known : IsKnownVersion world.version
   pub queue : IsQueued world → HasQueue db (marked world)
 
 -- The finding is true of each database with this schema whose tables represent the world.

@@ -2,7 +2,7 @@
 
 ghost use Rattle.std.specs.Prelude.{◌≡◌};
 ghost use Rattle.wu_check.specs.Examining.{unless_refused, Examines, OnLegible};
-ghost use Rattle.wu_check.specs.Findings.{FindsOfTables, HasWrongRow, IsBasis, IsBasisLater, IsBasisOf, Says, SaysLater, Tells, TellsLater};
+ghost use Rattle.wu_check.specs.Findings.{FindsOfTables, HasWrongRow, IsBasis, IsBasisLater, IsBasisOf, Says, SaysLater, Tells, TellsLaterFirst};
 ghost use Rattle.wu_check.specs.Verdicts.{Checks};
 ghost use Rattle.wu_schema.specs.Asking.{ServesUnlessFailed};
 ghost use Rattle.wu_schema.specs.Calls.{OnAnswer};
@@ -86,7 +86,8 @@ fn unless_later<S: Alter>(conn: &mut Connection<S>, finding: Finding) -> Result<
         → Tells db found) }
     ensures opens { ServesUnlessFailed S.Store conn.new result }
     // With no limit on steps, the later version of a project's one row is what is found.
-    ensures later { OnAnswer S.Store conn.old conn.new result (TellsLater conn.old.step_limit) }
+    ensures later { OnAnswer S.Store conn.old conn.new result
+        (TellsLaterFirst conn.old.step_limit) }
 {
     match version_of(conn) {
         Ok(Some(version)) if !is_known(version) => Ok(Finding::Version(version)),

@@ -1,7 +1,7 @@
 //! Whether the world that the tables represent is that of a sound project.
 
 ghost use Rattle.std.specs.Prelude.{◌≡◌, ◌≤◌, ◌↔◌, IfErr, IfOk, IfSome, IsNone, IsTrue};
-ghost use Rattle.wu_check.specs.Checking.{IsKnown};
+ghost use Rattle.wu_check.specs.Checking.{IsKnownVersion};
 ghost use Rattle.wu_check.specs.Examining.{Examines};
 ghost use Rattle.wu_check.specs.Findings.{IsRightWorld, Judges, TellsOf, TellsUnknown};
 ghost use Rattle.wu_core.specs.declared.fault.Fault.TheVariants.{Memory};
@@ -23,7 +23,7 @@ use wu_tables::queue_tree;
 /// Returns whether this program knows the version.
 pub fn is_known(version: u64) -> bool
     // It is true exactly for versions from 1 to the present one.
-    ensures { IsTrue result ↔ IsKnown version }
+    ensures { IsTrue result ↔ IsKnownVersion version }
 {
     1 <= version && version <= PRESENT_VERSION
 }

@@ -3,7 +3,7 @@
 ghost use Rattle.std.specs.Prelude.{◌≡◌, ℕ, map};
 ghost use Rattle.sqlite.specs.Order.{column};
 ghost use Rattle.wu_check.specs.Versions.{IsReadVersion, IsToldBy, TellVersion};
-ghost use Rattle.wu_loader.specs.Asked.{Looks};
+ghost use Rattle.wu_loader.specs.Asked.{LooksAtTables};
 ghost use Rattle.wu_loader.specs.Shown.{keyed};
 
 use sqlite::types::ValueRef;
@@ -17,7 +17,7 @@ pub const FIRST_VERSION: u64 = 1;
 
 /// Returns the rows of the table of the project.
 fn rows_of_project<S: Alter>(conn: &mut Connection<S>) -> Result<Vec<Row>, Fault>
-    ensures { Looks FIRST_VERSION S.Store conn.old conn.new result
+    ensures { LooksAtTables FIRST_VERSION S.Store conn.old conn.new result
         (λ db trees rows. rows.items ≡ map (keyed 3) (db.trees trees.project)) }
 {
     query(conn, SELECT_PROJECT, &[])
@@ -51,7 +51,7 @@ pub fn version_told<S: Alter>(conn: &mut Connection<S>) -> Result<u64, Fault>
     // Only reads. The version is that of each represented world, and of the one row of `project`;
     // or 1 where there is no such row. Over such tables with no limit on steps, its only faults are
     // `Memory` and `Broken`.
-    ensures { Looks FIRST_VERSION S.Store conn.old conn.new result
+    ensures { LooksAtTables FIRST_VERSION S.Store conn.old conn.new result
         (λ db trees version. IsReadVersion db version) }
 {
     let rows = rows_of_project(conn)?;

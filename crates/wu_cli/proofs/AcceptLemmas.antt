@@ -1,5 +1,5 @@
 -- The commands that a session accepts.
-use Rattle.std.proofs.Common.{◌≡◌, ◌⊎◌, ◌∙◌, inl, inr, ℕ, Bool, true, false, List, [], ◌∷◌, ◌++◌, map, take, Option, Some, None, Result, Ok, Err, refl, sym, subst, arith}
+use Rattle.std.proofs.Common.{◌≡◌, ◌⊎◌, ◌∙◌, inl, inr, ℕ, Bool, true, false, List, [], ◌∷◌, ◌++◌, map, take, Option, None, Result, Ok, Err, refl, sym, subst, arith}
 use Rattle.std.proofs.lemmas.Bool.{cases_Bool}
 use Rattle.sqlite.specs.State.{HasCleanDisk}
 use Rattle.sqlite_trees.specs.declared.store.Store.{Ghosts}
@@ -8,26 +8,18 @@ use Rattle.wu_core.specs.declared.fault.Fault.{Fault}
 use Rattle.wu_machine.specs.Commands.{request_of}
 use Rattle.wu_machine.specs.Machine.{fold_steps}
 use Rattle.wu_passes.specs.declared.project.Project.{Project}
-use Rattle.wu_passes.proofs.SessionLemmas.{over_shows}
 use Rattle.wu_passes.specs.Projects.{has_ended, IsOver, IsSessionOpen, state_of}
 use Rattle.wu_passes.specs.Standing.{FaultsOnlyGrow}
-use Rattle.wu_arguments.specs.declared.action.Action.{Action}
-use Rattle.wu_arguments.specs.declared.action.Action.TheVariants.{Commands, Look, Refused}
 use Rattle.wu_arguments.specs.declared.refusal.Refusal.{Refusal}
-use Rattle.wu_arguments.specs.declared.step.LineFault.{LineFault}
 use Rattle.wu_arguments.specs.declared.step.Script.{Script}
-use Rattle.wu_cli.specs.Performing.{Performs}
 use Rattle.wu_cli.specs.Repeating.{commands_of_steps, unrolled}
-use Rattle.wu_cli.specs.Trying.{PerformsRan, RanStep}
-use Rattle.wu_cli.specs.Scripting.{PerformsEach, PerformsSteps}
 use Rattle.wu_cli.specs.Exports.{SaysOfExport}
 use Rattle.wu_cli.specs.Hearing.{Hears}
 use Rattle.wu_cli.specs.Answering.{is_cut}
 use Rattle.wu_cli.specs.Sessions.{Accepts, AnswersEach, AnswersHeard, DoesAsked, DoesHeard, ends_with, EndsInput, EndsSession, RunsSession}
 use Rattle.wu_cli.specs.declared.line_trouble.LineTrouble.{LineTrouble}
 use Rattle.wu_cli.proofs.ActionLemmas.{answer_both, world_both}
-use Rattle.wu_cli.proofs.ScriptLemmas.{each_done, each_goes, each_over, script_clean}
-use Rattle.wu_cli.proofs.TryLemmas.{ran_clean, ran_performs}
+use Rattle.wu_cli.proofs.ScriptLemmas.{script_clean}
 
 -- A session that goes on has not ended.
 ends_never : (told : Result (Unit {0}) Fault) (done : Result Bool LineTrouble) (cut : Bool) → is_cut done ≡ cut → ends_with told true done ≡ None → ⊥
@@ -50,58 +42,20 @@ module _ {S : Type 0} {store : Ghosts S} where
   }
 
 module _ {S W : Type 0} {store : Ghosts S} (contents : W → Option (List ℕ)) where
-  -- Of an action, also if a fault ended it.
-  one_accepts : (old new : Project S store) (out_old out_new : W) (action : Action) (end : Option Fault) → Performs contents old new out_old out_new action end
-      → IsSessionOpen old → IsSessionOpen new → HasCleanDisk (state_of new) → (world : World) → IsOver old world → Accepts world new
-  one_accepts old new out_old out_new (Commands commands) end (run, runs, is) going still clean world over =
-      let drives = runs.answers.2 going clean world over in
-      let shown = runs.answers.3 going clean world (over_shows old world over) in
-      record {
-        commands = take run.acknowledged commands;
-        answers = runs.answers.0;
-        answered = drives.answered;
-        over = record { is_project = drives.project; version = shown.shows.version; goes = drives.goes still };
-      }
-  one_accepts old new out_old out_new (Look view) end sees going still clean world over =
-      accepts_none new world (record { is_project = over.is_project; version = sees.version ∙ over.version; goes = sees.goes clean world over.goes })
-  one_accepts old new out_old out_new (Refused why) end kept going still clean world over = accepts_none new world (subst (λ p. IsOver p world) (sym kept.0) over)
-
-  ran_accepts : (old new : Project S store) (out_old out_new : W) (ran : RanStep) (end : Option Fault) → PerformsRan contents ran old new out_old out_new end
-      → IsSessionOpen old → IsSessionOpen new → HasCleanDisk (state_of new) → (world : World) → IsOver old world → Accepts world new
-  ran_accepts old new out_old out_new ran end does =
-      let (out_done, told, did) = ran_performs contents old new out_old out_new ran end does in
-      one_accepts old new out_old out_done ran.step.action told did
-
-  each_accepts : (old new : Project S store) (out_old out_new : W) (steps : List RanStep) → PerformsEach contents old new out_old out_new steps
-      → IsSessionOpen old → HasCleanDisk (state_of new) → (world : World) → IsOver old world → Accepts world new
-  each_accepts old new out_old out_new steps each going clean world over =
-      let done = each_done contents old new out_old out_new steps each going clean world (over_shows old world over) in
-      record { commands = commands_of_steps world steps; answers = done.0; answered = done.1; over = each_over contents old new out_old out_new steps each going clean world over }
-
-  -- Of steps, also if one ended with a fault.
-  steps_accept : (old new : Project S store) (out_old out_new : W) (steps : List RanStep) (end : Option LineFault) → PerformsSteps contents old new out_old out_new steps end
-      → IsSessionOpen old → IsSessionOpen new → HasCleanDisk (state_of new) → (world : World) → IsOver old world → Accepts world new
-  steps_accept old new out_old out_new steps None each going still clean world over = each_accepts old new out_old out_new steps each going clean world over
-  steps_accept old new out_old out_new steps (Some end) until going still clean world over =
-      let grows = ran_clean contents until.mid new until.out_mid out_new until.last (Some end.fault) until.ends in
-      let before : HasCleanDisk (state_of until.mid) = omega (arith, grows, clean) in
-      let front = each_accepts old until.mid out_old until.out_mid until.before until.each going before world over in
-      let opened = each_goes contents old until.mid out_old until.out_mid until.before until.each going in
-      accepts_both until.mid new world front (ran_accepts until.mid new until.out_mid out_new until.last (Some end.fault) until.ends opened still clean (fold_steps world (map request_of front.commands)) front.over)
-
   module _ (gives : List ℕ → ℕ → Option (List ℕ) → Type 0) (exports : SaysOfExport) (db : List ℕ) where
     asked_clean : (old new : Project S store) (out_old out_new : W) (asked : Result Script Refusal) (done : Result Bool LineTrouble) → DoesAsked contents gives exports db old new out_old out_new asked done → FaultsOnlyGrow (state_of old) (state_of new)
     asked_clean old new out_old out_new (Ok script) done (end, out_mid, does, then) = script_clean contents old new out_old out_mid script.steps end does.does
     asked_clean old new out_old out_new (Err why) done (is, same, unwritten) = subst (λ p. FaultsOnlyGrow (state_of old) (state_of p)) (sym same) (omega arith)
 
-    heard_clean : (old new : Project S store) (out_old out_new : W) (heard : Result (List ℕ) Refusal) (done : Result Bool LineTrouble) → DoesHeard contents gives exports db old new out_old out_new heard done → FaultsOnlyGrow (state_of old) (state_of new)
+    pub heard_clean : (old new : Project S store) (out_old out_new : W) (heard : Result (List ℕ) Refusal) (done : Result Bool LineTrouble) → DoesHeard contents gives exports db old new out_old out_new heard done → FaultsOnlyGrow (state_of old) (state_of new)
     heard_clean old new out_old out_new (Ok text) done (asked, given, does) = asked_clean old new out_old out_new asked done does
     heard_clean old new out_old out_new (Err why) done (is, same, unwritten) = subst (λ p. FaultsOnlyGrow (state_of old) (state_of p)) (sym same) (omega arith)
 
     asked_accepts : (old new : Project S store) (out_old out_new : W) (asked : Result Script Refusal) (done : Result Bool LineTrouble) → DoesAsked contents gives exports db old new out_old out_new asked done
         → IsSessionOpen old → IsSessionOpen new → HasCleanDisk (state_of new) → (world : World) → IsOver old world → Accepts world new
     asked_accepts old new out_old out_new (Ok script) done (end, out_mid, does, then) going still clean world over =
-        steps_accept old new out_old out_mid (unrolled world does.does.as_ran) end (does.does.over going clean world (over_shows old world over)) going still clean world over
+        let (ran, are, driven, on) = does.drives going clean world over in
+        record { commands = take driven.count (commands_of_steps world (unrolled world ran)); answers = driven.answers; answered = driven.drives.answered; over = on still }
     asked_accepts old new out_old out_new (Err why) done (is, same, unwritten) going still clean world over =
         subst (λ p. Accepts world p) (sym same) (accepts_none old world over)
 
@@ -110,13 +64,13 @@ module _ {S W : Type 0} {store : Ghosts S} (contents : W → Option (List ℕ)) 
     heard_accepts old new out_old out_new (Ok text) done (asked, given, does) going still clean world over = asked_accepts old new out_old out_new asked done does going still clean world over
     heard_accepts old new out_old out_new (Err why) done (is, same, unwritten) going still clean world over = subst (λ p. Accepts world p) (sym same) (accepts_none old world over)
 
-    still_open : (old new : Project S store) (out_old out_new : W) (heard : Result (List ℕ) Refusal) → AnswersHeard contents gives exports db old new out_old out_new heard None → IsSessionOpen new
+    pub still_open : (old new : Project S store) (out_old out_new : W) (heard : Result (List ℕ) Refusal) → AnswersHeard contents gives exports db old new out_old out_new heard None → IsSessionOpen new
     still_open old new out_old out_new heard it = elim (cases_Bool (has_ended new)) [
       | inl over ↦ absurd (ends_never it.told it.done (is_cut it.done) refl (subst (λ b. ends_with it.told b it.done ≡ None) over (sym it.next)))
       | inr opened ↦ opened
     ]
 
-    answers_clean : (old new : Project S store) (out_old out_new : W) (heard : List (Result (List ℕ) Refusal)) → AnswersEach contents gives exports db old new out_old out_new heard → FaultsOnlyGrow (state_of old) (state_of new)
+    pub answers_clean : (old new : Project S store) (out_old out_new : W) (heard : List (Result (List ℕ) Refusal)) → AnswersEach contents gives exports db old new out_old out_new heard → FaultsOnlyGrow (state_of old) (state_of new)
     unfolding AnswersEach
     answers_clean old new out_old out_new [] each = subst (λ p. FaultsOnlyGrow (state_of old) (state_of p)) (sym each.0) (omega arith)
     answers_clean old new out_old out_new (one ∷ more) each =

@@ -75,8 +75,8 @@ same_command one other same = cc
 -- what a list of commands did after others were done, of all of them
 module _ (world : World) (before xs after : List Command) (done answers : List Answer) (run : Run) (is_cut : Bool) (new : State)
     (first : AnswerAll world before done) (drives : Drives (world_of world before) xs answers run is_cut new) where
-  next : world_after world (before ++ (xs ++ after)) (length before + run.acknowledged) ≡ world_after (world_of world before) xs run.acknowledged
-  next = ap (λ cs. world_of world cs) (take_within before xs after run.acknowledged drives.within) ∙ world_both world before (take run.acknowledged xs)
+  pub next_within : world_after world (before ++ (xs ++ after)) (length before + run.acknowledged) ≡ world_after (world_of world before) xs run.acknowledged
+  next_within = ap (λ cs. world_of world cs) (take_within before xs after run.acknowledged drives.within) ∙ world_both world before (take run.acknowledged xs)
 
   pub drives_within : Drives world (before ++ (xs ++ after)) (done ++ answers) (so_far (length before + run.acknowledged)) is_cut new
   drives_within = record {
@@ -84,15 +84,15 @@ module _ (world : World) (before xs after : List Command) (done answers : List A
     answered = subst (λ cs. AnswerAll world cs (done ++ answers)) (sym (take_within before xs after run.acknowledged drives.within))
         (answer_both world before (take run.acknowledged xs) done answers first drives.answered);
     end = λ fault told. absurd (cc);
-    goes = λ going. subst (λ w. GoesOn new w) (sym next) (drives.goes going);
+    goes = λ going. subst (λ w. GoesOn new w) (sym next_within) (drives.goes going);
     ended = λ ended.
         let at = drives.ended ended in
-        (at.0, get_within before xs after run.acknowledged at.0 at.1, subst (λ w. HasEnded new w (request_of at.0)) (sym next) at.2);
-    project = subst (λ w. IsProject w) (sym next) drives.project;
+        (at.0, get_within before xs after run.acknowledged at.0 at.1, subst (λ w. HasEnded new w (request_of at.0)) (sym next_within) at.2);
+    project = subst (λ w. IsProject w) (sym next_within) drives.project;
     cut_project = λ ended cut there.
         let at = drives.ended ended in
         let same : at.0 ≡ cut = same_command at.0 cut (sym (get_within before xs after run.acknowledged at.0 at.1) ∙ there) in
-        subst (λ w. IsProject (step w (request_of cut))) (sym next) (drives.cut_project ended cut (at.1 ∙ ap (λ c. Some c) same));
+        subst (λ w. IsProject (step w (request_of cut))) (sym next_within) (drives.cut_project ended cut (at.1 ∙ ap (λ c. Some c) same));
   }
 
 -- the end of a run does not matter to what it did
@@ -107,6 +107,10 @@ so_far_drives world commands answers run is_cut new drives = record {
   project = drives.project;
   cut_project = drives.cut_project;
 }
+
+-- the world after all of them
+pub after_all : (world : World) (commands : List Command) → world_of world commands ≡ world_after world commands (length commands)
+after_all world commands = ap (λ cs. world_of world cs) (sym (take-length commands))
 
 -- all commands were done
 pub all_drives : (world : World) (commands : List Command) (answers : List Answer) (new : State)

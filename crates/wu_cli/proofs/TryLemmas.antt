@@ -1,5 +1,6 @@
 -- Tried actions: what the machine accepts of them, and what a refusal leaves.
 use Rattle.std.proofs.Common.{◌≡◌, ◌≢◌, ◌∙◌, inl, inr, ℕ, zero, suc, ◌≤◌, Bool, true, false, IfSome, List, [], ◌∷◌, length, take, Option, Some, None, Result, Ok, Err, refl, sym, ap, subst, arith}
+use Rattle.wu_views.specs.Walking.{IsWalkFault}
 use Rattle.std.proofs.lemmas.Bool.{cases_Bool}
 use Rattle.std.specs.Prelude.{option_map, slice_get}
 use Rattle.sqlite.specs.State.{State, HasCleanDisk}
@@ -23,10 +24,10 @@ use Rattle.wu_machine.specs.Sound.{IsProject}
 use Rattle.wu_passes.specs.Committing.{FoundAs}
 use Rattle.wu_passes.specs.declared.project.Project.{Project}
 use Rattle.wu_passes.specs.Projects.{IsOver, IsSessionOpen, has_ended, older_version, ShowsProject, state_of}
-use Rattle.wu_passes.specs.Standing.{FaultsOnlyGrow, GoesOn, HasEnded, MayEnd}
+use Rattle.wu_passes.specs.Standing.{FaultsOnlyGrow, GoesOn, HasEnded, IsFailure}
 use Rattle.wu_passes.proofs.SessionLemmas.{over_shows, present_none}
 use Rattle.wu_report.specs.Seeing.{Sees}
-use Rattle.wu_report.specs.Views.{IsViewFault, RefusesWith}
+use Rattle.wu_report.specs.Views.{RefusesWith}
 use Rattle.wu_arguments.specs.declared.action.Action.{Action}
 use Rattle.wu_arguments.specs.declared.action.Action.TheVariants.{Commands, Look, Refused}
 use Rattle.wu_arguments.specs.declared.script.Mode.{Mode}
@@ -122,8 +123,9 @@ module _ (world : World) (commands : List Command) (answers : List Answer) (run 
   front : take run.acknowledged (accepted world commands) ≡ take run.acknowledged commands
   front = accepted_front world commands answers run.acknowledged drives.answered
 
-  here : world_after world (accepted world commands) run.acknowledged ≡ world_after world commands run.acknowledged
-  here = ap (λ cs. world_of world cs) front
+  -- the world after those that were done is one, of all and of those that the machine accepts
+  pub after_accepted : world_after world (accepted world commands) run.acknowledged ≡ world_after world commands run.acknowledged
+  after_accepted = ap (λ cs. world_of world cs) front
 
   within : run.acknowledged ≤ length (accepted world commands)
   within = accepted_within world commands answers run.acknowledged drives.within drives.answered
@@ -133,9 +135,9 @@ module _ (world : World) (commands : List Command) (answers : List Answer) (run 
     within = within;
     answered = subst (λ cs. AnswerAll world cs answers) (sym front) drives.answered;
     end = λ fault told. absurd (cc);
-    goes = λ still. subst (λ w. GoesOn new w) (sym here) goes;
+    goes = λ still. subst (λ w. GoesOn new w) (sym after_accepted) goes;
     ended = λ ended. absurd (cc);
-    project = subst (λ w. IsProject w) (sym here) drives.project;
+    project = subst (λ w. IsProject w) (sym after_accepted) drives.project;
     cut_project = λ ended cut there. absurd (cc);
   }
 
@@ -149,11 +151,11 @@ module _ (world : World) (commands : List Command) (answers : List Answer) (run 
         answered = subst (λ cs. AnswerAll world cs answers) (sym front) drives.answered;
         end = λ fault told. absurd (cc);
         goes = λ still. absurd (cc);
-        ended = λ yes. (last, next, subst (λ w. HasEnded new w (request_of last)) (sym here) ended);
-        project = subst (λ w. IsProject w) (sym here) drives.project;
+        ended = λ yes. (last, next, subst (λ w. HasEnded new w (request_of last)) (sym after_accepted) ended);
+        project = subst (λ w. IsProject w) (sym after_accepted) drives.project;
         cut_project = λ yes other at.
             let same : last ≡ other = same_command last other (sym next ∙ at) in
-            subst (λ w. IsProject (step w (request_of other))) (sym here) (drives.cut_project cut other (there ∙ ap (λ c. Some c) same));
+            subst (λ w. IsProject (step w (request_of other))) (sym after_accepted) (drives.cut_project cut other (there ∙ ap (λ c. Some c) same));
       }
 
   by_reply : (last : Command) → is_cut ≡ true → slice_get commands run.acknowledged ≡ Some last → HasEnded new (world_after world commands run.acknowledged) (request_of last)
@@ -181,14 +183,14 @@ not_store fault refused (inl is) = never_both (subst (λ f. is_refusal f ≡ tru
 not_store fault refused (inr (inl is)) = never_both (subst (λ f. is_refusal f ≡ true) is refused)
 not_store fault refused (inr (inr is)) = never_both (subst (λ f. is_refusal f ≡ true) is refused)
 
-not_ending : (fault : Fault) → is_refusal fault ≡ true → MayEnd fault → ⊥
+not_ending : (fault : Fault) → is_refusal fault ≡ true → IsFailure fault → ⊥
 not_ending fault refused (inl is) = not_store fault refused (inl is)
 not_ending fault refused (inr is) = not_store fault refused (inr (inl is))
 
 pub not_output : (fault : Fault) → is_refusal fault ≡ true → fault ≡ Output → ⊥
 not_output fault refused is = never_both (subst (λ f. is_refusal f ≡ true) is refused)
 
-not_of_view : (fault : Fault) → is_refusal fault ≡ true → IsViewFault fault → ⊥
+not_of_view : (fault : Fault) → is_refusal fault ≡ true → IsWalkFault fault → ⊥
 not_of_view fault refused (inl is) = not_output fault refused is
 not_of_view fault refused (inr is) = not_store fault refused is
 
@@ -201,7 +203,7 @@ module _ {S W : Type 0} {store : Ghosts S} (contents : W → Option (List ℕ)) 
   refused_goes (Commands commands) fault (run, runs, is) refused going = elim (cases_Bool (has_ended new)) [
     | inl over ↦
         let ends = runs.ends going over in
-        absurd (not_ending fault refused (subst (λ f. MayEnd f) (one_fault ends.0 fault (sym ends.1 ∙ is)) ends.2))
+        absurd (not_ending fault refused (subst (λ f. IsFailure f) (one_fault ends.0 fault (sym ends.1 ∙ is)) ends.2))
     | inr still ↦ still
   ]
   refused_goes (Look view) fault sees refused going = elim (cases_Bool (has_ended new)) [
@@ -350,7 +352,7 @@ none_taken : (count : ℕ) → take {A = Command} count [] ≡ []
 none_taken zero = refl
 none_taken (suc count) = refl
 
-stop_ends_nothing : MayEnd NotAProject → ⊥
+stop_ends_nothing : IsFailure NotAProject → ⊥
 stop_ends_nothing (inl is) = absurd (cc)
 stop_ends_nothing (inr is) = absurd (cc)
 
@@ -359,7 +361,7 @@ module _ {S W : Type 0} {store : Ghosts S} (contents : W → Option (List ℕ)) 
   action_goes (Commands commands) count runs going = elim (cases_Bool (has_ended new)) [
     | inl over ↦
         let ends = runs.ends going over in
-        absurd (stop_ends_nothing (subst (λ f. MayEnd f) (one_fault ends.0 NotAProject (sym ends.1)) ends.2))
+        absurd (stop_ends_nothing (subst (λ f. IsFailure f) (one_fault ends.0 NotAProject (sym ends.1)) ends.2))
     | inr still ↦ still
   ]
   action_goes (Look view) count (sees, long) going = elim (cases_Bool (has_ended new)) [

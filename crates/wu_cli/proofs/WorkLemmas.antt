@@ -8,11 +8,11 @@ use Rattle.sqlite.specs.State.{HasCleanDisk}
 use Rattle.sqlite.specs.Store.{Ghosts}
 use Rattle.wu_core.specs.declared.fault.Fault.{Fault}
 use Rattle.wu_core.specs.World.{World}
-use Rattle.wu_machine.specs.Sound.{IsProject}
 use Rattle.wu_passes.specs.declared.project.Project.{Project}
 use Rattle.wu_passes.proofs.SessionLemmas.{over_shows}
 use Rattle.wu_passes.specs.Projects.{IsOver, IsSessionOpen, has_ended, ShowsProject, state_of}
 use Rattle.wu_passes.specs.Standing.{GoesOn, FaultsOnlyGrow}
+use Rattle.wu_passes.proofs.AdoptingLemmas.{begins_over}
 use Rattle.wu_arguments.specs.declared.action.Action.{Action}
 use Rattle.wu_arguments.specs.declared.action.Action.TheVariants.{Commands, Look, Refused}
 use Rattle.wu_arguments.specs.declared.step.LineFault.{LineFault}
@@ -21,7 +21,7 @@ use Rattle.wu_cli.specs.Performing.{Performs}
 use Rattle.wu_cli.specs.Printing.{printed_action, printed_steps, printed_work, PrintsOver}
 use Rattle.wu_cli.specs.Repeating.{unrolled}
 use Rattle.wu_cli.specs.Trying.{RanStep}
-use Rattle.wu_cli.specs.Working.{BeginsFrom, DoesAdopted, DoesNothing, DoesOver, DrivesOver, DrivesWork, line_outcome, PerformsWork, script_outcome, WorkRanAs}
+use Rattle.wu_cli.specs.Working.{BeginsNothing, DoesOver, DrivesOver, DrivesWork, line_outcome, PerformsWork, script_outcome, WorkRanAs}
 use Rattle.wu_cli.specs.declared.trouble.Trouble.{Trouble}
 use Rattle.wu_cli.specs.declared.work.Work.{Work}
 use Rattle.wu_cli.specs.declared.work.Work.TheVariants as work
@@ -101,7 +101,7 @@ module _ {S W : Type 0} {store : Ghosts S} (contents : W → Option (List ℕ)) 
   work_drives (work.Line action) done (end, does, is) going clean world over =
       subst (λ d. DrivesWork world (work.Line action) d (state_of new)) (sym is) (line_works action end does going clean world over)
   work_drives (work.Script script) done (end, does, is) going clean world over =
-      let (ran, are, driven) = drives_script contents old new out_old out_new script.steps end does going clean world over in
+      let (ran, are, driven, on) = drives_script contents old new out_old out_new script.steps end does going clean world over in
       subst (λ d. DrivesWork world (work.Script script) d (state_of new)) (sym is) (record {
         ran = ran;
         are = are;
@@ -115,19 +115,7 @@ module _ {S W : Type 0} {store : Ghosts S} (contents : W → Option (List ℕ)) 
 -- ---- over an open database
 
 module _ {S W : Type 0} (g : Ghosts S) (contents : W → Option (List ℕ)) (conn again : Held S) (out_old out_new : W) (asked : Work) (done : Result (Unit {0}) Trouble) where
-  -- the session begins over the world
-  pub begins : (does : DoesAdopted g contents conn again out_old out_new asked done) → HasCleanDisk (state_of does.old) → (world : World) → IsProject world
-      → BeginsFrom (state g conn) world → IsOver does.old world
-  begins does clean world project begun = record { is_project = project; version = does.knows clean world goes.stands; goes = goes }
-    where
-      from : BeginsFrom (state g conn) world → GoesOn (state_of does.old) world
-      from (inl goes) = (does.adopts.goes clean world project.first goes).0
-      from (inr (vacant, is)) = subst (λ w. GoesOn (state_of does.old) w) (sym is) (does.adopts.fresh clean vacant).goes
-
-      goes : GoesOn (state_of does.old) world
-      goes = from begun
-
-  stands : (none : DoesNothing g contents conn again out_old out_new asked done) → HasCleanDisk (state g again) → (world : World) → GoesOn (state g conn) world → GoesOn (state g again) world
+  stands : (none : BeginsNothing g contents conn again out_old out_new asked done) → HasCleanDisk (state g again) → (world : World) → GoesOn (state g conn) world → GoesOn (state g again) world
   stands none clean world goes = (none.refused.given clean).goes world goes
 
   pub drives_over : DoesOver g contents conn again out_old out_new asked done → DrivesOver g conn again asked done
@@ -135,9 +123,9 @@ module _ {S W : Type 0} (g : Ghosts S) (contents : W → Option (List ℕ)) (con
       let after : HasCleanDisk (state_of does.new) = subst (λ c. HasCleanDisk (state g c)) does.released clean in
       let kept = work_clean contents does.old does.new out_old out_new asked done does.does in
       let before : HasCleanDisk (state_of does.old) = omega (arith, kept, after) in
-      let over = begins does before world project begun in
+      let over = begins_over g conn does.old does.begins before world project begun in
       inl (subst (λ c. DrivesWork world asked done (state g c)) (sym does.released)
-      (work_drives contents does.old does.new out_old out_new asked done does.does does.begins after world over))
+      (work_drives contents does.old does.new out_old out_new asked done does.does does.begins.going after world over))
   drives_over (inr none) clean world project begun = inr (record {
     fault = none.fault;
     told = none.told;
@@ -168,8 +156,8 @@ module _ {S W : Type 0} (g : Ghosts S) (contents : W → Option (List ℕ)) (con
       let after : HasCleanDisk (state_of does.new) = subst (λ c. HasCleanDisk (state g c)) does.released clean in
       let kept = work_clean contents does.old does.new out_old out_new asked done does.does in
       let before : HasCleanDisk (state_of does.old) = omega (arith, kept, after) in
-      let shows = over_shows does.old world (begins g contents conn again out_old out_new asked done does before world project begun) in
-      work_prints contents does.old does.new out_old out_new asked done does.does does.begins after world shows
+      let shows = over_shows does.old world (begins_over g conn does.old does.begins before world project begun) in
+      work_prints contents does.old does.new out_old out_new asked done does.does does.begins.going after world shows
   prints_over (inr none) clean world project begun =
       let (ran, are) = unstopped_work asked in (
         ran,

@@ -122,7 +122,7 @@ module _ {S : Type 0} (g : Ghosts S) (keeps : List ℕ → List ℕ → Type 0) 
     pub archive : ForEachClassed g old new (λ world. KeepsRows keeps asked (archived_lines world) done)
 
   -- The database is checked, and the outputs of a sound project have their files; else the trouble is why not.
-  pub record KeepsSound (old new : Held S) (done : Result KeptCounts Trouble) : Type 0 where
+  pub record KeepsIfSound (old new : Held S) (done : Result KeptCounts Trouble) : Type 0 where
     pub mid : Held S
     pub counts : Result Counts Trouble
     pub checks : CountsSound g old mid counts

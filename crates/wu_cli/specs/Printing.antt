@@ -11,7 +11,7 @@ use Rattle.wu_machine.specs.Commands.{request_of}
 use Rattle.wu_machine.specs.Machine.{reply, step}
 use Rattle.wu_machine.specs.Requests.{Reply}
 use Rattle.wu_machine.specs.Sound.{IsProject}
-use Rattle.wu_passes.specs.Adopting.{older_than_present}
+use Rattle.wu_passes.specs.Adopting.{older_than_present, BeginsFrom}
 use Rattle.wu_passes.specs.declared.project.Project.{Project}
 use Rattle.wu_passes.specs.Projects.{IsSessionOpen, ShowsProject, state_of}
 use Rattle.wu_report.specs.Texts.{view_text}
@@ -26,7 +26,7 @@ use Rattle.wu_arguments.specs.declared.step.Step.{Step}
 use Rattle.wu_cli.specs.Endings.{fault_line}
 use Rattle.wu_cli.specs.Repeating.{RanAs, unrolled, world_behind}
 use Rattle.wu_cli.specs.Trying.{accepted, refusal_line, refusal_of, RanStep}
-use Rattle.wu_cli.specs.Working.{BeginsFrom, line_outcome, script_outcome, WorkRanAs}
+use Rattle.wu_cli.specs.Working.{line_outcome, script_outcome, WorkRanAs}
 use Rattle.wu_cli.specs.declared.trouble.Trouble.{Trouble}
 use Rattle.wu_cli.specs.declared.work.Work.{Work}
 use Rattle.wu_cli.specs.declared.work.Work.TheVariants as work

@@ -1,5 +1,5 @@
 -- A session: lines that come one after another, what is done for each, and what goes out.
-use Rattle.std.specs.Prelude.{◌≡◌, ◌⊎◌, ℕ, Bool, true, false, List, [], ◌∷◌, ◌++◌, codes, if◌then◌else◌, is_some, map, slice_get, unwrap_or, Option, Some, None, Result, Ok, Err}
+use Rattle.std.specs.Prelude.{◌≡◌, ◌⊎◌, ℕ, Bool, true, List, [], ◌∷◌, ◌++◌, codes, if◌then◌else◌, is_some, map, slice_get, unwrap_or, Option, Some, None, Result, Ok, Err}
 use Rattle.std.specs.Fmt.{decimal}
 use Rattle.std.specs.Io.KnownBytes.{IsAtEnd}
 use Rattle.sqlite.specs.Held.{Held, state}
@@ -17,8 +17,8 @@ use Rattle.wu_machine.specs.Machine.{fold_steps, present_version}
 use Rattle.wu_machine.specs.declared.command.Answer.{Answer}
 use Rattle.wu_machine.specs.declared.command.Command.{Command}
 use Rattle.wu_passes.specs.declared.project.Project.{Project}
-use Rattle.wu_passes.specs.Adopting.{Adopts, RefusesAdoption, StartsOver, TellsNew}
-use Rattle.wu_passes.specs.Projects.{connection_of, has_ended, is_new, IsOver, IsSessionOpen, KnowsTables, older_version, state_of}
+use Rattle.wu_passes.specs.Adopting.{RefusesAdoption}
+use Rattle.wu_passes.specs.Projects.{connection_of, has_ended, is_new, IsOver, IsSessionOpen, older_version, state_of, BeginsSession}
 use Rattle.wu_report.specs.Texts.{line_end}
 use Rattle.wu_report.specs.Writing.{WritesTo}
 use Rattle.wu_arguments.specs.Statuses.{fault_status, refusal_status}
@@ -199,12 +199,7 @@ module _ {S W : Type 0} (g : StoreGhosts S) (contents : W → Option (List ℕ))
   pub record ServesAdopted (status : ℕ) : Type 0 where
     pub old : Project S g
     pub new : Project S g
-    pub idle : conn.in_transaction ≡ false
-    pub begins : IsSessionOpen old
-    pub adopts : Adopts (state g conn) (state_of old)
-    pub version : StartsOver (state g conn) (state_of old) (older_version old)
-    pub knows : KnowsTables old
-    pub new_is : TellsNew (state g conn) (state_of old) (is_new old)
+    pub begins : BeginsSession g conn old
     pub serves : ServesProject contents gives exports db old new out_old out_new in_old in_new status
     pub released : again ≡ connection_of new
 

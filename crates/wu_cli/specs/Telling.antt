@@ -6,7 +6,7 @@ use Rattle.sqlite_trees.specs.declared.store.Store.{Ghosts}
 use Rattle.wu_core.specs.World.{World}
 use Rattle.wu_core.specs.declared.fault.Fault.{Fault}
 use Rattle.wu_core.specs.declared.fault.Fault.TheVariants.{NotAProject, Output}
-use Rattle.wu_drive.specs.Driving.{AnswerAll, Drives, Lengthens, session_of}
+use Rattle.wu_drive.specs.Driving.{AnswerAll, Drives, Lengthens, session_of, world_after}
 use Rattle.wu_drive.specs.Writing.{WritesAnswers}
 use Rattle.wu_machine.specs.declared.command.Answer.{Answer}
 use Rattle.wu_machine.specs.declared.command.Command.{Command}
@@ -90,12 +90,14 @@ pub record DrivesCommands (world : World) (steps : List RanStep) (end : Option L
   pub whole : end ≡ None → count ≡ length (commands_of_steps world steps)
 
 module _ {S W : Type 0} {store : Ghosts S} (contents : W → Option (List ℕ)) where
-  -- On a clean disk, a script does a prefix of its commands over each world over which its session goes on.
+  -- On a clean disk, a script does a prefix of its commands over each world over which its session goes on. If the
+  -- session has not ended then, it goes on over the world after these.
   abbrev pub DrivesSteps : Project S store → Project S store → W → W → List Step → Option LineFault → Type 0
   DrivesSteps old new out_old out_new steps end =
       IsSessionOpen old → HasCleanDisk (state_of new) → (world : World) → IsOver old world
       → (ran : List RanStep) × RanAs steps ran
-      × DrivesCommands world (unrolled world ran) end (contents out_old) (contents out_new) (state_of new)
+      × (it : DrivesCommands world (unrolled world ran) end (contents out_old) (contents out_new) (state_of new))
+      × (IsSessionOpen new → IsOver new (world_after world (commands_of_steps world (unrolled world ran)) it.count))
 
   -- If a history of sessions led to the world, the script's commands lengthen it by one session. Each world that a
   -- crash may leave is that of the longer history, with the cut command in or out.

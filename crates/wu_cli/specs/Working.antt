@@ -1,5 +1,5 @@
 -- What words ask of a project, with all files read, and what is done for it over an open database.
-use Rattle.std.specs.Prelude.{◌≡◌, ◌⊎◌, ℕ, Bool, true, false, List, [], length, Option, Some, None, OnOk, Result, Ok, Err}
+use Rattle.std.specs.Prelude.{◌≡◌, ◌⊎◌, ℕ, Bool, true, List, [], length, Option, Some, None, OnOk, Result, Ok, Err}
 use Rattle.sqlite.specs.Held.{Held, state}
 use Rattle.sqlite.specs.State.{State, HasCleanDisk}
 use Rattle.sqlite.specs.Store.{Ghosts}
@@ -9,13 +9,13 @@ use Rattle.wu_core.specs.declared.fault.FileCause.TheVariants.{Unreadable}
 use Rattle.wu_feed.specs.Limits.{longest_file}
 use Rattle.wu_feed.specs.Scripts.{script_of}
 use Rattle.wu_feed.specs.declared.script.ScriptLine.{ScriptLine}
-use Rattle.wu_core.specs.World.{World, empty_world}
+use Rattle.wu_core.specs.World.{World}
 use Rattle.wu_machine.specs.declared.command.Answer.{Answer}
 use Rattle.wu_machine.specs.declared.command.Command.{Command}
 use Rattle.wu_machine.specs.Sound.{IsProject}
 use Rattle.wu_passes.specs.declared.project.Project.{Project}
-use Rattle.wu_passes.specs.Adopting.{Adopts, IsAdoptionFault, IsVacant, RefusesAdoption, StartsOver}
-use Rattle.wu_passes.specs.Projects.{connection_of, IsSessionOpen, KnowsTables, older_version, state_of}
+use Rattle.wu_passes.specs.Adopting.{IsAdoptionFault, RefusesAdoption, BeginsFrom}
+use Rattle.wu_passes.specs.Projects.{connection_of, BeginsSession}
 use Rattle.wu_passes.specs.Standing.{GoesOn}
 use Rattle.wu_drive.specs.Driving.{Drives}
 use Rattle.wu_arguments.specs.Contents.{Prepares}
@@ -126,16 +126,12 @@ module _ {S W : Type 0} (g : Ghosts S) (contents : W → Option (List ℕ)) (con
   pub record DoesAdopted : Type 0 where
     pub old : Project S g
     pub new : Project S g
-    pub idle : conn.in_transaction ≡ false
-    pub begins : IsSessionOpen old
-    pub adopts : Adopts (state g conn) (state_of old)
-    pub version : StartsOver (state g conn) (state_of old) (older_version old)
-    pub knows : KnowsTables old
+    pub begins : BeginsSession g conn old
     pub does : PerformsWork contents old new out_old out_new asked done
     pub released : again ≡ connection_of new
 
   -- No project is adopted: that fault is reported, and nothing is done or written.
-  pub record DoesNothing : Type 0 where
+  pub record BeginsNothing : Type 0 where
     pub fault : Fault
     pub refused : RefusesAdoption (state g conn) (state g again) fault
     -- A connection in a transaction comes back as it was.
@@ -144,11 +140,7 @@ module _ {S W : Type 0} (g : Ghosts S) (contents : W → Option (List ℕ)) (con
     pub unwritten : out_new ≡ out_old
 
   abbrev pub DoesOver : Type 0
-  DoesOver = DoesAdopted ⊎ DoesNothing
-
--- The world that a session begins from: the one that the tables represent, or the empty one if there is no project.
-abbrev pub BeginsFrom : State → World → Type 0
-BeginsFrom s world = GoesOn s world ⊎ (IsVacant s × (world ≡ empty_world))
+  DoesOver = DoesAdopted ⊎ BeginsNothing
 
 -- No project was adopted, for this fault, and tables that represented the world represent it still.
 pub record RefusesWork (old new : State) (world : World) (done : Result (Unit {0}) Trouble) : Type 0 where

@@ -2,7 +2,7 @@
 
 ghost use Rattle.std.specs.Prelude.{◌≡◌, IfOk, IfSome, string_bytes, suc};
 ghost use Rattle.wu_report.specs.Writing.{WritesTo};
-ghost use Rattle.wu_cli.specs.Outputs.{ending_of, HasFile, IsLost, is_wanted, KeepsOutputs, KeepsSound, lost_line, output_path, total, trouble_of_walk};
+ghost use Rattle.wu_cli.specs.Outputs.{ending_of, HasFile, IsLost, is_wanted, KeepsOutputs, KeepsIfSound, lost_line, output_path, total, trouble_of_walk};
 
 use crate::backup::{Unmade, count_sound};
 use crate::log_names::is_reserved;
@@ -218,7 +218,7 @@ pub fn keep_sound<S: Alter, F: KeepFile>(
     // The database is checked, and what keeps it from being a sound project is reported. Of a sound
     // one each wanted output has its file, with exactly its bytes, and they are counted; or the
     // first ones have, up to one that has none, or to a fault of the store.
-    ensures { KeepsSound S.Store (F.KeepFile.keeps files.now) asked.now conn.old conn.new result }
+    ensures { KeepsIfSound S.Store (F.KeepFile.keeps files.now) asked.now conn.old conn.new result }
 {
     let _counts = count_sound(alloc, conn)?;
     keep_outputs(alloc, conn, files, asked)

@@ -58,8 +58,8 @@ pub fn perform_script<S: Alter, W: Write>(
     ensures status { result.0 ≡ status_of_line result.1 }
     // A prefix of the script's commands is done, each with the machine's reply; without a fault
     // all. A tried command that the machine or the store refuses is none of them. Where the session
-    // ended within a command, a crash may leave that one done. What went out reports just as many
-    // commands as were done.
+    // ended within a command, a crash may leave that one done; else it goes on over the world after
+    // the prefix. What went out reports just as many commands as were done.
     ensures drives { DrivesSteps W.contents project.old project.new out.old out.new
         steps.now result.1 }
     // Where a crash could leave one world alone, after the script each world that it may leave is

@@ -24,7 +24,7 @@ use Rattle.wu_schema.specs.Refines.{IsFree}
 use Rattle.wu_passes.specs.declared.project.Project.{Project}
 use Rattle.wu_passes.specs.Adopting.{IsVacant}
 use Rattle.wu_passes.specs.Projects.{IsOver, IsSessionOpen, IsSessionEnded, has_ended, state_of}
-use Rattle.wu_passes.specs.Standing.{GoesOn, MayEnd}
+use Rattle.wu_passes.specs.Standing.{GoesOn, IsFailure}
 use Rattle.wu_store.specs.StandsFor.{KnowsClasses}
 use Rattle.wu_report.specs.Texts.{line_end, view_text}
 use Rattle.wu_report.specs.Views.{Shows}
@@ -64,7 +64,7 @@ one_answer command (answer ∷ other ∷ answers) all = absurd all.1
 module _ {S W : Type 0} {store : Ghosts S} (contents : W → Option (List ℕ)) (fresh mid new : Project S store) (out_old out_mid out_new : W) (command : Command) (run : Run)
     (asked : request_of command ≡ demonstration) (going : IsSessionOpen fresh) (over_empty : IsOver fresh empty_world)
     (mid_clean : HasCleanDisk (state_of mid)) (new_clean : HasCleanDisk (state_of new)) (whole : run.end ≡ None) (all : run.end ≡ None → run.acknowledged ≡ 1)
-    (ends : IsSessionOpen fresh → IsSessionEnded mid → EndsBy run MayEnd)
+    (ends : IsSessionOpen fresh → IsSessionEnded mid → EndsBy run IsFailure)
     (answers : (answers : List Answer) × WritesAnswers (contents out_old) (contents out_mid) answers run × DrivesProject fresh mid (command ∷ []) answers run × DrivesFromAny fresh mid (command ∷ []) answers run) where
   driven : Drives empty_world (command ∷ []) answers.0 run (has_ended mid) (state_of mid)
   driven = answers.2 going mid_clean empty_world over_empty

@@ -1,5 +1,5 @@
 -- No line of a fault begins with '='.
-use Rattle.std.proofs.Common.{List, [], ◌∷◌, ◌++◌, decimal, refl}
+use Rattle.std.proofs.Common.{[], ◌∷◌, ◌++◌, decimal, refl}
 use Rattle.std.specs.Prelude.{codes}
 use Rattle.wu_core.specs.Words.{file_cause_word, template_key_word}
 use Rattle.wu_core.specs.declared.fault.Fault.{Fault}

@@ -6,7 +6,7 @@ use Rattle.wu_machine.specs.declared.command.Answer.{Answer}
 use Rattle.wu_machine.specs.declared.command.Command.{Command}
 use Rattle.wu_passes.specs.declared.project.Project.{Project}
 use Rattle.wu_passes.specs.Projects.{IsSessionOpen, IsSessionEnded, KeepsLimit, StaysOpen, StaysShut, state_of}
-use Rattle.wu_passes.specs.Standing.{FaultsOnlyGrow, MayEnd}
+use Rattle.wu_passes.specs.Standing.{FaultsOnlyGrow, IsFailure}
 use Rattle.wu_drive.specs.declared.runs.Run.{Run}
 use Rattle.wu_drive.specs.Driving.{DrivesFromAny, DrivesNothing, DrivesProject, DrivesWhy, EndsBy, LeavesAll, LeavesAllIdle, LengthensLife, ServesUnlessEnded}
 use Rattle.wu_drive.specs.Writing.{WritesAnswers}
@@ -27,7 +27,7 @@ pub record RunsList {S W : Type 0} {store : Ghosts S} (contents : W → Option (
   pub untouched : LeavesAll old new run
   pub idle : LeavesAllIdle old new commands run
   -- A session ends with `Broken`, and otherwise only with `Memory`.
-  pub ends : IsSessionOpen old → IsSessionEnded new → EndsBy run MayEnd
+  pub ends : IsSessionOpen old → IsSessionEnded new → EndsBy run IsFailure
   pub broken : IsSessionOpen old → run.end ≡ Some Broken → IsSessionEnded new
   -- A disk that is not clean stays so, and no fault of the disk is forgotten.
   pub clean : FaultsOnlyGrow (state_of old) (state_of new)

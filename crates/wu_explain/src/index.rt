@@ -4,8 +4,9 @@
 /// have a word the first explains it where it stands alone: `class` is why a row was skipped before it is a column.
 ///
 /// `number` and `fault` are the two names of a fault, and the name of F17 alone is a cause of F3. A `report` is what a
-/// check, a backup, outputs or a lint print, an `answer` what a command does, each by its first word. After `cannot` and
-/// `unknown` stands what could not be done or is none.
+/// check, a backup or outputs print, an `answer` what a command does, a `reading` what a lint does, and a `usage` what is
+/// said of a command line, each by its first word. After `cannot` and `unknown` stands what could not be done or is
+/// invalid.
 pub const INDEX: &str = "view: workunits -> view workunits
 view: results -> view results
 view: hosts -> view hosts
@@ -44,6 +45,7 @@ subject: waits -> waits
 subject: scripts -> scripts
 subject: cancels cancel -> cancels
 subject: checks -> checks
+subject: openings -> openings
 subject: backups -> backups
 subject: lint -> lint
 subject: outputs -> outputs
@@ -81,13 +83,14 @@ report: ok table there version queue project workunit result credit_grant host -
 report: archived import host_class workunit_class -> checks
 report: backup -> backups
 report: outputs -> outputs
-report: in found: wanted: -> lint
 report: only -> scripts
 answer: batch sent reported classes came -> imports
 answer: transition: validate: assimilate: delete: purge: -> passes
 answer: cancel -> cancels
 answer: upgrade: -> upgrade
-cannot: open -> status 3
+reading: in found: wanted: wanted -> lint
+usage: error: usage: -> status 2
+cannot: open -> openings
 cannot: make -> backups
 cannot: write -> outputs
 unknown: view -> view

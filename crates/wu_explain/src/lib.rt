@@ -46,7 +46,9 @@ fn first_word(text: &str) -> (&str, &str) {
 /// with further words, as it is printed, and its number may be left out. It may also stand after `=` and a status, as a
 /// session prints it, or after `line` and `NUMBER:`, as it is printed of a script. Why a row was skipped may stand after
 /// `row` and `NUMBER:`. What begins with `cannot` or `unknown` is explained by the word after it, and what answers, a
-/// check, a backup or outputs report by its first word. Returns `None` if there is no such topic.
+/// check, a backup, outputs, a lint or the reading of a command line report by its first word. A line of a host is
+/// explained by its view, and why a database cannot be opened by the words that begin it. Returns `None` if there is no
+/// such topic.
 pub fn explanation<'a>(first: &str, second: &str, third: &str, fourth: &str) -> Option<&'a str>
     // A text that is returned is not empty.
     ensures { IfSome result (λ text. 1 ≤ length text.now) }

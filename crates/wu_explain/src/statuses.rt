@@ -23,7 +23,7 @@ were before it. Of a cycle and of a script the commands before it are done.
         ),
         "2" => Some(
             "Status 2
-The words of a line are none or no UTF-8, ask for help or the version, or name no
+The words of a line are invalid or no UTF-8, ask for help or the version, or name no
 view, topic or kind; nothing of that line was done. lintelthyme help lists the
 subcommands, and lintelthyme help SUBCOMMAND their options.
 ",
@@ -32,16 +32,9 @@ subcommands, and lintelthyme help SUBCOMMAND their options.
             "Status 3
 The database can't be opened, or F15 or F16: the next opening shows whether the
 last command was done.
-Where it can't be opened, see that the path is right, that no other process has
-the file, that it may be read and written, and that the disk has room; while
-another process has it, wait or use flock. Where the path has no file, but its log
-PATH-wal or its journal PATH-journal is there, put the database back beside it; so it
-is where the file is empty, and the log holds a page (it has 568 bytes or more). Where
-PATH-wal is a link, put the log itself there; where something else lies at PATH-wal or
-PATH-journal, as a folder or a text, move it away. Nothing is opened, either, where
-the path is that of a log, or where the file is no database.
-check --db PATH names the cause, where a copy of both files shows it; explain checks
-has what else sqlite3 can tell.
+Where it can't be opened, a terminal shows the cause, or check --db PATH does:
+explain openings says what to do after each. While another process has the file, wait
+or use flock.
 Where the disk did not take a backup or an output, the project is as it was.
 Else open it again by show --view summary: each command that was acknowledged is
 there, and the last one whole or not at all. Then repeat that command. An import

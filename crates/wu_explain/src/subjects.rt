@@ -30,6 +30,7 @@ pub fn subject_text<'a>(name: &str) -> Option<&'a str>
   cancels       how a workunit is given up by hand
   upgrade       a project of an older version
   checks        whether a database holds a sound project, and what it reports
+  openings      why a database can't be opened
   backups       a copy of a project in a file of its own
   outputs       the outputs of finished jobs as files
   lint          whether a file reads as its import would read it
@@ -228,9 +229,9 @@ lintelthyme check --db PATH reads all tables whole, and answers with status 0
   ok version=3 workunits=4 results=8
 or reports with status 1 the first thing that is wrong: the table, the key of the
 row or its place in order of the key, and what is the matter; or with status 3
-why the database can't be opened. It changes no table and makes no database, and
-its memory grows with the tables. Where it reports something, stop all passes, keep
-a copy of both files, and go back to a copy that a check calls sound.
+why the database can't be opened: explain openings. It changes no table and makes no
+database, and its memory grows with the tables. Where it reports something, stop all
+passes, keep a copy of both files, and go back to a copy that a check calls sound.
 The order is: tables, their rows, rows that do not agree, the queue, and last the
 names that an upgrade gives. If something has such a name, the project is sound,
 and only its upgrade is refused: set back a version that was lowered by hand, or
@@ -243,6 +244,45 @@ virtual table, or with somebody's index that has a WHERE or is over an expressio
 sqlite3 finds the first two by
   SELECT name, tbl_name FROM sqlite_schema WHERE type = 'trigger'
   PRAGMA foreign_key_check
+",
+        ),
+        "openings" => Some(
+            "Why a database can't be opened, as a check or a terminal says, and what to do
+  there is no such file
+                see the path
+  its name is that of a log
+                give the path of the database
+  its log or its journal is there, and its file is gone or empty
+                put the database back beside it
+  its log is a link
+                put the log itself there
+  something else lies in the place of its log or its journal
+                move it away, and put the right log there
+  it is in use
+                wait until no other process has it
+  it is no database that this program reads
+                see whether it is the right file, and explain checks
+  it has auto-vacuum or texts in UTF-16
+                such a database cannot be used
+  its file has a second name, and its log may lie beside that
+                remove the other hard link
+  it has a rollback journal, which only sqlite3 rolls back
+                open it with sqlite3 first
+  it is damaged, or the log beside it is of another database
+                go back to a copy of both files
+  the disk failed, the disk is full
+                see to the disk
+  the file cannot be opened
+                see who may read and write it and its folder, and that it is a file
+Only a terminal shows the cause after a command; check --db PATH reports it, where a
+copy of both files shows it. Where that prints ok, see who may write the file and its
+folder, and that no other program has it.
+The log of PATH is PATH-wal, and its journal PATH-journal. Never move one of the two
+files, the database and its log, alone.
+Where there is no file and no log, a command other than check, backup and outputs
+makes a project, and a terminal shows
+  made PATH
+Where none was to be made, see the path.
 ",
         ),
         "backups" => Some(

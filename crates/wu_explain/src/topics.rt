@@ -46,11 +46,18 @@ fn topic_of_count(first: &str, second: &str) -> Option<&'static str> {
     }
 }
 
+/// Returns the topic of an answer, of what a lint prints, or of what is said of a command line, by its first word.
+fn topic_of_begun(first: &str) -> Option<&'static str> {
+    topic_of("answer", first)
+        .or(topic_of("reading", first))
+        .or(topic_of("usage", first))
+}
+
 /// Returns the topic of words by the first two, and by whether further words stand after them.
 fn topic_of_two(first: &str, second: &str, goes_on: bool) -> Option<&'static str> {
     if goes_on {
         return topic_of_fault(first, second)
-            .or(topic_of("answer", first))
+            .or(topic_of_begun(first))
             .or(topic_of("report", first));
     }
     match first {
@@ -58,7 +65,7 @@ fn topic_of_two(first: &str, second: &str, goes_on: bool) -> Option<&'static str
         "view" | "file" | "status" => topic_of(first, second),
         _ => topic_of_fault(first, second)
             .or(topic_of_count(first, second))
-            .or(topic_of("answer", first)),
+            .or(topic_of_begun(first)),
     }
 }
 
@@ -80,36 +87,68 @@ fn stands_before_skip(first: &str, second: &str) -> bool {
     }
 }
 
-/// Returns the topic of why something was not done, by the first two words of the reason: a fault, or what cannot be done
-/// or is unknown.
+/// Returns the topic of why something was not done, by the first two words of the reason: a fault, what cannot be done or
+/// is unknown, or what is said of a command line.
 fn topic_of_reason(first: &str, second: &str) -> Option<&'static str> {
     match first {
         "cannot" | "unknown" => topic_of(first, second),
         "line" | "only" => Some("scripts"),
-        _ => topic_of_numbered(first, second),
+        _ => topic_of_numbered(first, second).or(topic_of("usage", first)),
     }
 }
 
 /// Returns the topic of a line that was not done, as a session or a script reports it: of the reason after the first two
-/// words, or else of the status or of scripts.
+/// words, of what a check reports there, or else of the status or of scripts.
 fn topic_of_line(first: &str, second: &str, third: &str, fourth: &str) -> Option<&'static str> {
-    let otherwise = match first {
-        "=" => topic_of("status", second),
+    let otherwise = match (first, second) {
+        ("=", "1") => topic_of("report", third).or(Some("status 1")),
+        ("=", _) => topic_of("status", second),
         _ => Some("scripts"),
     };
     topic_of_reason(third, fourth).or(otherwise)
 }
 
+/// Returns the view that prints a line of a host, whatever its name, by the column after that; `None` if it is no such
+/// line.
+fn view_of_host(second: &str) -> Option<&'static str> {
+    match second.split_once('=') {
+        Some(("class", _value)) => Some("view classes"),
+        Some(("total", _value)) => Some("view hosts"),
+        _ => None,
+    }
+}
+
 /// Returns the topic of a line that a view prints, by a state or a column that it has; `None` if it has none.
 fn topic_of_row(second: &str, third: &str) -> Option<&'static str> {
-    // one view alone prints a class second, and one a mask third
-    if second.starts_with("class=") {
-        return Some("view classes");
-    }
+    // one view alone prints a mask third
     if third.starts_with("mask=") {
         return Some("view archive");
     }
     topic_of_cell(second).or(topic_of_cell(third))
+}
+
+/// Returns the topic of `ok` by the word after it: a check prints the version there, and a lint a path, which may have
+/// blanks.
+fn topic_of_ok(second: &str) -> Option<&'static str> {
+    if second.is_empty() || second.starts_with("version=") {
+        Some("checks")
+    } else {
+        Some("lint")
+    }
+}
+
+/// Returns whether these words begin why a database cannot be opened, or what a terminal shows of its opening.
+fn begins_opening(first: &str, second: &str, third: &str, fourth: &str) -> bool {
+    match (first, second) {
+        ("made", _) => !second.is_empty(),
+        ("its", "name") | ("its", "log") | ("its", "file") => true,
+        ("it", "is") | ("it", "has") => true,
+        ("something", "else") => true,
+        ("the", "disk") | ("the", "file") => true,
+        ("there", "is") => third == "no" && fourth == "such",
+        ("a", "check") => third == "names",
+        _ => false,
+    }
 }
 
 /// Returns the topic of these words in lower case.
@@ -120,13 +159,22 @@ fn topic_of_lowered(first: &str, second: &str, third: &str, fourth: &str) -> Opt
     if stands_before_skip(first, second) {
         return topic_of("skip", third);
     }
+    if let Some(view) = view_of_host(second) {
+        return Some(view);
+    }
+    if begins_opening(first, second, third, fourth) {
+        return Some("openings");
+    }
     match (first, second) {
         ("=", "ready") => Some("scripts"),
         ("cannot", _) => topic_of("cannot", second),
         ("unknown", word) if !word.is_empty() => topic_of("unknown", word),
         (_, "skipped:") => Some("skips"),
         ("host", _) if third == "errors" => Some("waits"),
-        ("ok", path) if !path.is_empty() && third.is_empty() => Some("lint"),
+        ("the", "words") | ("a", "value") => Some("status 2"),
+        ("out", "of") => Some("F14"),
+        (_, "max_total_results") if third == "is" => Some("template"),
+        ("ok", _) => topic_of_ok(second),
         _ => topic_of_two(first, second, !third.is_empty() || !fourth.is_empty()).or(topic_of_row(
             second, third,
         )),

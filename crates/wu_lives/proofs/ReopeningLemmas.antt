@@ -15,7 +15,7 @@ use Rattle.wu_machine.specs.Sound.{IsProject}
 use Rattle.wu_passes.specs.Projects.{IsOfItsVersion, IsOver, state_of}
 use Rattle.wu_passes.specs.declared.project.Project.{Project}
 use Rattle.sqlite_trees.specs.declared.store.Store as Store
-use Rattle.wu_passes.specs.Standing.{GoesOn, MayEnd}
+use Rattle.wu_passes.specs.Standing.{GoesOn, IsFailure}
 use Rattle.wu_machine.specs.declared.command.Answer.{Answer}
 use Rattle.wu_machine.specs.declared.command.Command.{Command}
 use Rattle.wu_drive.specs.declared.runs.Run.{Run}
@@ -45,7 +45,7 @@ pub record IsBeginning (world : World) (commands : List Command) (run : Run) (db
 
 -- after a run of commands
 module _ (world : World) (commands : List Command) (mid : State) (project : IsProject world) (db : Trees) (may : mid.may_leave db) where
-  beginning_at : (run : Run) (count : ℕ) → run.acknowledged ≤ count → count ≤ run.acknowledged + 1 → (run.acknowledged < count → EndsBy run MayEnd) → count ≤ length commands → IsProject (world_after world commands count)
+  beginning_at : (run : Run) (count : ℕ) → run.acknowledged ≤ count → count ≤ run.acknowledged + 1 → (run.acknowledged < count → EndsBy run IsFailure) → count ≤ length commands → IsProject (world_after world commands count)
       → FoundAs db (world_after world commands count) → IsBeginning world commands run db
   beginning_at run count has most cut within still found = record {
     count = count;
@@ -54,7 +54,7 @@ module _ (world : World) (commands : List Command) (mid : State) (project : IsPr
     project = still;
   }
 
-  pub beginning_of : (answers : List Answer) (run : Run) (has_ended : Bool) → (has_ended ≡ true → EndsBy run MayEnd) → Drives world commands answers run has_ended mid → IsBeginning world commands run db
+  pub beginning_of : (answers : List Answer) (run : Run) (has_ended : Bool) → (has_ended ≡ true → EndsBy run IsFailure) → Drives world commands answers run has_ended mid → IsBeginning world commands run db
   beginning_of answers run false ends drives = beginning_at run run.acknowledged (omega arith) (omega arith) (λ more. absurd (omega (arith, more))) drives.within drives.project ((drives.goes refl).left _ may)
   beginning_of answers run true ends drives =
       let (cut, there, ended) = drives.ended refl in
@@ -76,7 +76,7 @@ holds_from world commands run new whole it = record { count = it.count; kept = i
 
 -- and what is found of it
 module _ (world : World) (commands : List Command) (mid new : State) (again : IsReopened mid new) (project : IsProject world) where
-  pub holds_beginning : (answers : List Answer) (run : Run) (has_ended : Bool) → (has_ended ≡ true → EndsBy run MayEnd) → Drives world commands answers run has_ended mid → ∥ HoldsBeginning world commands run new ∥₁
+  pub holds_beginning : (answers : List Answer) (run : Run) (has_ended : Bool) → (has_ended ≡ true → EndsBy run IsFailure) → Drives world commands answers run has_ended mid → ∥ HoldsBeginning world commands run new ∥₁
   holds_beginning answers run has_ended ends drives = ∥∥₁_map again.found (λ may. holds_from world commands run new again.whole (beginning_of world commands mid project _ may answers run has_ended ends drives))
 
   pub holds_none : (run : Run) → run.acknowledged ≡ 0 → GoesOn mid world → ∥ HoldsBeginning world commands run new ∥₁

@@ -15,9 +15,8 @@ use Rattle.sqlite_store.specs.declared.store.FileStore.{FileStore}
 use Rattle.sqlite_store.specs.FileStore.{state, view, faults, recovers, is_shielded, files as store_files}
 use Rattle.sqlite.specs.Closing.{IsCopied}
 use Rattle.sqlite_store.specs.Laws.{stays_at}
-use Rattle.sqlite.specs.Files.{IsOpened, file_state, over_files}
+use Rattle.sqlite.specs.Files.{file_state, over_files}
 use Rattle.sqlite.specs.Held.{Held, AreDatabases}
-use Rattle.sqlite.specs.Start.{FindsIn}
 use Rattle.sqlite.specs.State.{HasCleanDisk}
 use Rattle.sqlite.specs.Tree.{Trees}
 use Rattle.sqlite.proofs.Theorems.{opens_again}
@@ -29,14 +28,11 @@ use Rattle.wu_machine.specs.Sessions.{world_of_life}
 use Rattle.sqlite_trees.specs.declared.store.Store as Store
 use Rattle.wu_machine.specs.declared.command.Answer.{Answer}
 use Rattle.wu_machine.specs.declared.command.Command.{Command}
-use Rattle.wu_passes.specs.Adopting.{IsVacant}
-use Rattle.wu_passes.specs.Committing.{FoundAs}
 use Rattle.wu_passes.specs.Projects.{IsOver, IsSessionOpen, IsSessionEnded, KnowsTables, state_of}
-use Rattle.wu_passes.specs.Standing.{GoesOn, MayEnd}
+use Rattle.wu_passes.specs.Standing.{GoesOn, IsFailure}
 use Rattle.wu_passes.specs.declared.project.Project.{Project}
 use Rattle.wu_lives.specs.Reopening.{IsLeftByRun}
-use Rattle.wu_lives.specs.Runs.{BeginsOver, DoesFirst, HoldsBeginningIn, HoldsWorld, LivesOn, told_by}
-use Rattle.wu_stops.proofs.BeginningLemmas.{empty_vacant, goes_from_trees, no_database}
+use Rattle.wu_lives.specs.Runs.{BeginsOver, DoesFirst, HoldsBeginningIn, LivesOn, told_by}
 use Rattle.wu_lives.proofs.ReopeningLemmas.{IsBeginning, answers_none, beginning_none, beginning_of, lived_more}
 
 -- both facts hold of what there is
@@ -76,7 +72,7 @@ beginning_copied old files stays copied world commands run each image may =
 
 -- what a run left of its session stands for the world after a beginning of its list
 module _ {D : Type 0} {g : Ghosts D} (old mid : Project (FileStore D g) over_files) (commands : List Command) (answers : List Answer) (run : Run) (counted : length answers ≡ run.acknowledged)
-    (drives : DrivesProject old mid commands answers run) (ends : IsSessionOpen old → IsSessionEnded mid → EndsBy run MayEnd) (ended : IsSessionEnded old → (mid ≡ old) × (run.acknowledged ≡ 0)) (clean : HasCleanDisk (state_of mid)) (world : World) (over : IsOver old world) where
+    (drives : DrivesProject old mid commands answers run) (ends : IsSessionOpen old → IsSessionEnded mid → EndsBy run IsFailure) (ended : IsSessionEnded old → (mid ≡ old) × (run.acknowledged ≡ 0)) (clean : HasCleanDisk (state_of mid)) (world : World) (over : IsOver old world) where
   pub begins_at : (db : Trees) → (state_of mid).may_leave db → IsBeginning world commands run db
   begins_at db may = elim (cases_Bool old.has_ended) [
     | inl was ↦
@@ -112,15 +108,7 @@ module _ {D W : Type 0} {g : Ghosts D} {contents : W → Option (List ℕ)} {old
         why = λ going honest world over. (drives going (early honest) world over).end;
       }
 
--- the second run opened such an image
-module _ {D : Type 0} {g : Ghosts D} (again : Held (FileStore D g)) (opened : IsOpened again) (image : Image) (found : FindsIn image (file_state again)) where
-  pub goes_in : SeenMayStay g → (world : World) → HoldsWorld image world → GoesOn (file_state again) world
-  goes_in stays world held = goes_from_trees again opened stays world (subst (λ (db : Trees). FoundAs db world) (sym (found.holds held.trees held.holds)) held.found)
-
-  pub vacant_in : image.db ≡ [] → IsVacant (file_state again)
-  vacant_in blank = empty_vacant again opened (no_database image _ blank found.reads)
-
--- and the life goes on over both
+-- the second run opened such an image, and the life goes on over both
 pub lives_on : {D T : Type 0} {g : Ghosts D} {h : Store.Ghosts T} (old : Project (FileStore D g) over_files) (commands : List Command) (run : Run) (answers : List Answer) (files : Files D) (image : Image) (new : Project T h)
     → DoesFirst old commands run answers files → BeginsOver image (state_of new) → KnowsTables new → LivesOn old commands run answers files image new
 lives_on old commands run answers files image new does begins knows honest may clean world told lived =

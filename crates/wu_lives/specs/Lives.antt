@@ -11,7 +11,7 @@ use Rattle.wu_machine.specs.declared.command.Command.{Command}
 use Rattle.wu_passes.specs.declared.project.Project.{Project}
 use Rattle.wu_passes.specs.Projects.{IsOver, IsSessionOpen, state_of}
 use Rattle.wu_machine.specs.Sessions.{Lived, world_lived, world_of_life}
-use Rattle.wu_passes.specs.Standing.{MayEnd}
+use Rattle.wu_passes.specs.Standing.{IsFailure}
 use Rattle.wu_lives.specs.Reopening.{DoesAll, OfEachWorld}
 
 -- What a session reported: the commands that it was given, its answers, and how far it went.
@@ -27,7 +27,7 @@ pub record IsSessionOf (world : World) (told : Transcript) (lived : Lived) : Typ
   pub answered : AnswerAll world (take told.run.acknowledged told.commands) told.answers
   pub has_ended : Bool
   pub session : lived.session ≡ session_of told.commands told.run has_ended
-  pub ends : has_ended ≡ true → EndsBy told.run MayEnd
+  pub ends : has_ended ≡ true → EndsBy told.run IsFailure
 
 -- These are the sessions of the history, each from the world that the one before it left.
 abbrev pub AreSessionsOf : World → List Transcript → List Lived → Type 0

@@ -13,7 +13,7 @@ use Rattle.wu_drive.specs.Driving.{AnswerAll, EndsBy, EndsEarly, LengthensLife, 
 use Rattle.wu_machine.specs.Sound.{IsProject}
 use Rattle.wu_passes.specs.Adopting.{Adopts}
 use Rattle.wu_passes.specs.Projects.{connection_of, IsOver, IsSessionOpen, IsSessionEnded, KnowsTables, state_of}
-use Rattle.wu_passes.specs.Standing.{GoesOn, MayEnd}
+use Rattle.wu_passes.specs.Standing.{GoesOn, IsFailure}
 use Rattle.wu_drive.specs.Running.{RunsList}
 use Rattle.wu_drive.specs.Writing.{WritesAnswers}
 use Rattle.wu_machine.specs.declared.command.Answer.{Answer}
@@ -56,7 +56,7 @@ module _ {D : Type 0} {g : Ghosts D} where
 
   -- What a run left of a session: only `Memory` or `Broken` ended it, and `Broken` always did.
   pub record IsLeftByRun (old : Project (FileStore D g) over_files) (commands : List Command) (run : Run) (left : Project (FileStore D g) over_files) : Type 0 where
-    pub ends : IsSessionOpen old → IsSessionEnded left → EndsBy run MayEnd
+    pub ends : IsSessionOpen old → IsSessionEnded left → EndsBy run IsFailure
     pub broken : IsSessionOpen old → run.end ≡ Some Broken → IsSessionEnded left
     -- A session that had ended is as it was.
     pub same : IsSessionEnded old → left ≡ old
@@ -80,7 +80,7 @@ pub record IsKept (commands : List Command) (run : Run) (count : ℕ) : Type 0 w
   pub has_acknowledged : run.acknowledged ≤ count
   pub at_most_one_more : count ≤ run.acknowledged + 1
   -- The one more is there only if `Memory` or `Broken` ended the session during it.
-  pub cut : run.acknowledged < count → EndsBy run MayEnd
+  pub cut : run.acknowledged < count → EndsBy run IsFailure
 
 -- The tables represent the machine's world after the first so many commands: in order, none skipped and none in part.
 pub record HoldsBeginning (world : World) (commands : List Command) (run : Run) (found : State) : Type 0 where

@@ -9,31 +9,23 @@ use Rattle.sqlite_trees.specs.declared.store.Store as Store
 use Rattle.sqlite_wal.specs.Files.{outcomes}
 use Rattle.sqlite_wal.specs.Reads.{AreClean}
 use Rattle.sqlite_wal.specs.Recovery.{Image}
-use Rattle.sqlite.specs.Files.{HoldsDatabase, over_files}
+use Rattle.sqlite.specs.Files.{over_files}
 use Rattle.sqlite.specs.State.{State, HasCleanDisk}
-use Rattle.sqlite.specs.Tree.{Trees}
-use Rattle.wu_core.specs.World.{World, empty_world}
+use Rattle.wu_core.specs.World.{World}
 use Rattle.wu_drive.specs.Driving.{AnswerAll, EndsEarly, world_after}
 use Rattle.wu_drive.specs.Writing.{WritesAnswers}
 use Rattle.wu_drive.specs.declared.runs.Run.{Run}
 use Rattle.wu_machine.specs.Machine.{present_version}
 use Rattle.wu_machine.specs.Sound.{IsProject}
-use Rattle.wu_plans.specs.Planning.{IsPresentProject}
 use Rattle.wu_machine.specs.declared.command.Answer.{Answer}
 use Rattle.wu_machine.specs.declared.command.Command.{Command}
-use Rattle.wu_passes.specs.Committing.{FoundAs}
 use Rattle.wu_passes.specs.Projects.{connection_of, IsOver, IsSessionOpen, state_of}
 use Rattle.wu_passes.specs.Standing.{GoesOn}
 use Rattle.wu_passes.specs.declared.project.Project.{Project}
+use Rattle.wu_stops.specs.Beginning.{HoldsWorld}
 use Rattle.wu_stops.specs.Closing.{IsNumbered}
 use Rattle.wu_lives.specs.Lives.{HasLived, Transcript}
 use Rattle.wu_lives.specs.Reopening.{IsKept, IsLeftByRun}
-
--- The two files with these bytes hold the tables of this world.
-pub record HoldsWorld (image : Image) (world : World) : Type 0 where
-  pub trees : Trees
-  pub holds : HoldsDatabase image trees
-  pub found : FoundAs trees world
 
 -- The two files hold the machine's world after the first so many commands: every acknowledged one, and at most one
 -- more.
@@ -43,10 +35,6 @@ pub record HoldsBeginningIn (world : World) (commands : List Command) (run : Run
   pub held : HoldsWorld image (world_after world commands count)
   -- Further commands may run over that world.
   pub project : IsProject (world_after world commands count)
-
--- If the database has no byte, a session begins from the empty world.
-abbrev pub BeginsBlank : Image → State → Type 0
-BeginsBlank image new = image.db ≡ [] → HasCleanDisk new → GoesOn new empty_world × IsPresentProject empty_world
 
 -- If the files hold the tables of a world, a session goes on from that world, whose version the program knows.
 abbrev pub BeginsOver : Image → State → Type 0

@@ -7,7 +7,8 @@ ghost use Rattle.std.specs.Prelude.{IfErr, IfOk, IfSome};
 ghost use Rattle.sqlite_wal.specs.Files.{image_at};
 ghost use Rattle.wu_passes.specs.Projects.{state_of};
 ghost use Rattle.wu_lives.specs.Reopening.{DoesAll, IsBegun, TellsEnded};
-ghost use Rattle.wu_lives.specs.Runs.{BeginsBlank, BeginsOver, LeavesFiles, LeavesStore, LivesOver};
+ghost use Rattle.wu_stops.specs.Beginning.{BeginsBlank};
+ghost use Rattle.wu_lives.specs.Runs.{BeginsOver, LeavesFiles, LeavesStore, LivesOver};
 
 use crate::driving::drive_and_release;
 use sqlite::{Connection, FileFrom, FileStore, Files, Start};

@@ -1,5 +1,6 @@
 -- The classes of hosts in order of their names, and those of workunits.
 use Rattle.wu_schema.proofs.Words.{AllByRecursion, None, World, flat_map, instances_of, IsPermutation, IsSorted, List, Row, Some, Workunit, [], ap, arith, class_cells, column, length, length-map, map, map-append, map-map, number, on_total, refl, slice_get, subst, suc, sym, take, workunit_row, zero, ℕ, ◌++◌, ◌+◌, ◌-◌, ◌<◌, ◌∙◌, ◌∷◌, ◌≡◌, ◌≢◌}
+use Rattle.wu_store.specs.Loading.{classless}
 use Rattle.std.specs.Cmp.{IsTotalOrder}
 use Rattle.std.specs.Prelude.{All}
 use Rattle.std.proofs.lemmas.Cmp.{nat_list_cmp_total}
@@ -10,7 +11,7 @@ use Rattle.wu_core.specs.Classes.{AreInOrder}
 use Rattle.wu_core.specs.Storable.{IsStorable}
 use Rattle.wu_core.specs.declared.workunit.HostClass.{HostClass}
 use Rattle.wu_store.proofs.SameWorld.{read_number, read_text}
-use Rattle.wu_loader.specs.Classing.{by_host, numbers, numbers_classed, unclassed, AreClassedBy, AreOfOthers, AreRising}
+use Rattle.wu_loader.specs.Classing.{by_host, numbers, numbers_classed, AreClassedBy, AreOfOthers, AreRising}
 use Rattle.wu_loader.specs.Rows.{classed_of, classed_row, IsStoredClass}
 use Rattle.wu_loader.specs.Whole.{DiffersAt, IsNoRow}
 use Rattle.wu_loader.specs.Wrongs.{keys}
@@ -58,11 +59,11 @@ never_past (x ∷ xs) zero low is = absurd cc
 never_past (x ∷ xs) (suc n) low is = never_past xs n (omega (arith, low)) is
 
 -- up to the first workunit without a class they are those of the workunits, and there they differ
-pub differs_from : (done rest classed : List Workunit) (classes : List Classed) → map unclassed classed ≡ map unclassed done → map classed_of classed ≡ take (length classed) classes → slice_get (numbers_classed classes) (length classed) ≢ slice_get (numbers rest) 0
+pub differs_from : (done rest classed : List Workunit) (classes : List Classed) → map classless classed ≡ map classless done → map classed_of classed ≡ take (length classed) classes → slice_get (numbers_classed classes) (length classed) ≢ slice_get (numbers rest) 0
     → DiffersAt (numbers (done ++ rest)) (numbers_classed classes) (length classed + 1)
 differs_from done rest classed classes so_far taken other =
     let n = length classed in
-    let same : numbers classed ≡ numbers done = sym (map-map (λ (w : Workunit). w.number) unclassed classed) ∙ ap (λ (ws : List Workunit). numbers ws) so_far ∙ map-map (λ (w : Workunit). w.number) unclassed done in
+    let same : numbers classed ≡ numbers done = sym (map-map (λ (w : Workunit). w.number) classless classed) ∙ ap (λ (ws : List Workunit). numbers ws) so_far ∙ map-map (λ (w : Workunit). w.number) classless done in
     let a = length-map classed (λ (w : Workunit). w.number) in
     let b : length (numbers classed) ≡ length (numbers done) = ap (λ (ns : List ℕ). length ns) same in
     let long : length (numbers done) ≡ n = omega (arith, a, b) in
@@ -86,20 +87,20 @@ differs_keys ws classes rows place read it =
 
 -- ---- without classes
 
-pub rows_unclassed : (ws : List Workunit) → map workunit_row (map unclassed ws) ≡ map workunit_row ws
-rows_unclassed ws = map-map workunit_row unclassed ws
+pub rows_unclassed : (ws : List Workunit) → map workunit_row (map classless ws) ≡ map workunit_row ws
+rows_unclassed ws = map-map workunit_row classless ws
 
-instances_unclassed : (ws : List Workunit) → flat_map instances_of (map unclassed ws) ≡ flat_map instances_of ws
-instances_unclassed = flat_map-map instances_of unclassed
+instances_unclassed : (ws : List Workunit) → flat_map instances_of (map classless ws) ≡ flat_map instances_of ws
+instances_unclassed = flat_map-map instances_of classless
 
-unclassed_all : (ws : List Workunit) → AllByRecursion (λ (w : Workunit). w.class ≡ 0) (map unclassed ws)
-unclassed_all ws = all-map (λ (w : Workunit). w.class ≡ 0) unclassed ws (all_of _ (λ w. refl) ws)
+unclassed_all : (ws : List Workunit) → AllByRecursion (λ (w : Workunit). w.class ≡ 0) (map classless ws)
+unclassed_all ws = all-map (λ (w : Workunit). w.class ≡ 0) classless ws (all_of _ (λ w. refl) ws)
 
 -- ---- what was found
 
-pub found_none : (workunits : List Workunit) (found : WithClasses) → found.workunits.items ≡ map unclassed workunits → found.hosts.items ≡ [] → HasClassesOf workunits None found
+pub found_none : (workunits : List Workunit) (found : WithClasses) → found.workunits.items ≡ map classless workunits → found.hosts.items ≡ [] → HasClassesOf workunits None found
 found_none workunits found is empty = record {
-  same = ap (map unclassed) is ∙ map-map unclassed unclassed workunits;
+  same = ap (map classless) is ∙ map-map classless classless workunits;
   classes = λ world works hosts. record { hosts = hosts ∙ empty; workunits = subst (AllByRecursion (λ (w : Workunit). w.class ≡ 0)) (sym (works ∙ is)) (unclassed_all workunits) };
   in_order = subst AreInOrder (sym empty) (λ i j d less low. absurd (omega (arith, low)));
 }

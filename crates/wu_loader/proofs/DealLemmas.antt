@@ -1,5 +1,6 @@
 -- The order of instances, and which of them are a workunit's.
 use Rattle.wu_schema.proofs.Words.{AllByRecursion, Instance, List, Workunit, all_has, drop, flat_map, has_right, inl, map-append, ◌≢◌, ◌≤◌, [], ap, arith, enumerate_from, length, map, on_total, refl, sym, subst, suc, take, ℕ, ◌++◌, ◌-◌, ◌+◌, ◌<◌, ◌∙◌, ◌∷◌, ◌≡◌, append-nil}
+use Rattle.wu_store.specs.Changes.{without_instances}
 use Rattle.std.specs.Prelude.{All}
 use Rattle.std.proofs.lemmas.List.{append_assoc, append_cancel_left, length-append, take_at}
 use Rattle.std.proofs.lemmas.List.Concat.{flat_map-append}
@@ -7,7 +8,7 @@ use Rattle.std.proofs.lemmas.List.Elements.{All-nil, All-push, recursion_from_Al
 use Rattle.wu_core.specs.Limits.{most_instances}
 use Rattle.std.proofs.lemmas.Cmp.{nat_cmp_total, then_total}
 use Rattle.std.specs.Cmp.{IsTotalOrder}
-use Rattle.wu_loader.specs.Dealing.{lone, by_place, placed_from, placed_of, AreDealt, IsNext}
+use Rattle.wu_loader.specs.Dealing.{by_place, placed_from, placed_of, AreDealt, IsNext}
 use Rattle.wu_loader.specs.Worlds.{IsOrdered}
 use Rattle.wu_loader.specs.Wrongs.{IsUndealtAt}
 use Rattle.wu_loader.specs.declared.rows.Placed.{Placed}
@@ -83,7 +84,7 @@ HasFew w = length w.instances ≤ most_instances
 -- so far: what was yielded is dealt, and these are left
 pub record IsDealing (workunits : List Workunit) (placed : List Placed) (yielded rest dealt : List Workunit) (left : List Placed) : Type 0 where
   pub whole : yielded ++ rest ≡ workunits
-  pub bare : map lone dealt ≡ map lone yielded
+  pub bare : map without_instances dealt ≡ map without_instances yielded
   pub all : flat_map placed_of dealt ++ left ≡ placed
   pub few : All (λ (w : Workunit). length w.instances ≤ most_instances) dealt
   -- where any from the front of those that are left are dealt too, it could not be otherwise
@@ -119,14 +120,14 @@ module _ (workunits : List Workunit) (placed : List Placed) (yielded rest dealt 
         go : (more : List Workunit) → ws ≡ dealt ++ more → IsFollowed ws
         go more split = from more split bares
           where
-            bares : map lone more ≡ lone w ∷ map lone rest
-            bares = append_cancel_left (map lone dealt) (map lone more) (lone w ∷ map lone rest)
-                (sym (map-append lone dealt more) ∙ ap (map lone) (sym split) ∙ are.bare ∙ ap (map lone) (sym so_far.whole) ∙ map-append lone yielded (w ∷ rest) ∙ ap (λ bs. bs ++ (lone w ∷ map lone rest)) (sym so_far.bare))
+            bares : map without_instances more ≡ without_instances w ∷ map without_instances rest
+            bares = append_cancel_left (map without_instances dealt) (map without_instances more) (without_instances w ∷ map without_instances rest)
+                (sym (map-append without_instances dealt more) ∙ ap (map without_instances) (sym split) ∙ are.bare ∙ ap (map without_instances) (sym so_far.whole) ∙ map-append without_instances yielded (w ∷ rest) ∙ ap (λ bs. bs ++ (without_instances w ∷ map without_instances rest)) (sym so_far.bare))
 
-            from : (more : List Workunit) → ws ≡ dealt ++ more → map lone more ≡ lone w ∷ map lone rest → IsFollowed ws
+            from : (more : List Workunit) → ws ≡ dealt ++ more → map without_instances more ≡ without_instances w ∷ map without_instances rest → IsFollowed ws
             from [] split bares = absurd cc
             from (v ∷ more) split bares =
-                let one : lone v ≡ lone w = cc in
+                let one : without_instances v ≡ without_instances w = cc in
                 let number : w.number ≡ v.number = ap (λ (u : Workunit). u.number) (sym one) in
                 let lists : placed_from w.number is ++ front ≡ placed_of v ++ flat_map placed_of more =
                 append_cancel_left (flat_map placed_of dealt) (placed_from w.number is ++ front) (placed_of v ++ flat_map placed_of more) (sym are.all ∙ ap (flat_map placed_of) split ∙ flat_map-append placed_of dealt (v ∷ more)) in
@@ -143,15 +144,15 @@ module _ (workunits : List Workunit) (placed : List Placed) (yielded rest dealt 
   pub deals_more : IsDealing workunits placed (yielded ++ w ∷ []) rest (dealt ++ with_its ∷ []) next
   deals_more = record {
     whole = append_assoc yielded (w ∷ []) rest ∙ so_far.whole;
-    bare = map-append lone dealt (with_its ∷ []) ∙ ap (λ bs. bs ++ lone w ∷ []) so_far.bare ∙ sym (map-append lone yielded (w ∷ []));
+    bare = map-append without_instances dealt (with_its ∷ []) ∙ ap (λ bs. bs ++ without_instances w ∷ []) so_far.bare ∙ sym (map-append without_instances yielded (w ∷ []));
     all = flat_more next ∙ ap (λ ps. flat_map placed_of dealt ++ ps) (sym taken) ∙ so_far.all;
     few = All-push HasFew dealt with_its so_far.few few;
     only = λ front back covers some ws up are. let it = followed front back covers some ws up are in (it.more, it.split ∙ sym (append_assoc dealt (with_its ∷ []) it.more));
   }
 
 module _ (workunits : List Workunit) (placed : List Placed) (yielded dealt : List Workunit) (left : List Placed) (so_far : IsDealing workunits placed yielded [] dealt left) where
-  bares_are : map lone dealt ≡ map lone workunits
-  bares_are = so_far.bare ∙ ap (map lone) (sym (append-nil yielded) ∙ so_far.whole)
+  bares_are : map without_instances dealt ≡ map without_instances workunits
+  bares_are = so_far.bare ∙ ap (map without_instances) (sym (append-nil yielded) ∙ so_far.whole)
 
   pub deals_all : left ≡ [] → AreDealt workunits placed dealt
   deals_all none = record {
@@ -167,8 +168,8 @@ module _ (workunits : List Workunit) (placed : List Placed) (yielded dealt : Lis
       go : (more : List Workunit) → ws ≡ dealt ++ more → ⊥
       go [] split = some (append_cancel_left (flat_map placed_of dealt) front [] (sym are.all ∙ ap (flat_map placed_of) split ∙ flat_map-append placed_of dealt []))
       go (v ∷ more) split =
-          let none : lone v ∷ map lone more ≡ [] = append_cancel_left (map lone dealt) (lone v ∷ map lone more) []
-          (sym (map-append lone dealt (v ∷ more)) ∙ ap (map lone) (sym split) ∙ are.bare ∙ sym bares_are ∙ sym (append-nil (map lone dealt))) in
+          let none : without_instances v ∷ map without_instances more ≡ [] = append_cancel_left (map without_instances dealt) (without_instances v ∷ map without_instances more) []
+          (sym (map-append without_instances dealt (v ∷ more)) ∙ ap (map without_instances) (sym split) ∙ are.bare ∙ sym bares_are ∙ sym (append-nil (map without_instances dealt))) in
           absurd cc
 
   pub deals_left : left ≢ [] → (ws : List Workunit) → IsOrdered ws → ¬ AreDealt workunits placed ws

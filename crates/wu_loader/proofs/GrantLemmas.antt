@@ -16,63 +16,64 @@ use Rattle.wu_loader.proofs.OrderLemmas.{ascending, ascends, in_pairs, named_are
 use Rattle.std.proofs.lemmas.List.Elements.{All-from_recursion, recursion_from_All}
 use Rattle.wu_schema.specs.Refines.{host_of}
 use Rattle.wu_schema.specs.Stored.{host_cells}
-use Rattle.wu_loader.specs.Rows.{host_row, IsStoredGrant, IsStoredHost}
+use Rattle.wu_loader.specs.Rows.{IsStoredGrant}
+use Rattle.wu_schema.specs.Reading.{host_row, IsStoredHost}
 use Rattle.wu_core.proofs.HostLemmas.{Ascends, below, once, pairs_ascend}
 use Rattle.wu_loader.specs.Granting.{by_name, AreHosts, IsGranted, IsListed, Rise}
-use Rattle.wu_loader.specs.declared.rows.Host.{Host}
+use Rattle.wu_schema.specs.declared.rows.HostSum.{HostSum}
 
 pub by_name_total : IsTotalOrder by_name
-by_name_total = on_total (λ (h : Host). h.name) nat_list_cmp_total
+by_name_total = on_total (λ (h : HostSum). h.name) nat_list_cmp_total
 
 -- hosts of which each is above the one before it rise
-rise_names : (hosts : List Host) → Rise hosts → Ascends below (map (λ (h : Host). h.name) hosts)
+rise_names : (hosts : List HostSum) → Rise hosts → Ascends below (map (λ (h : HostSum). h.name) hosts)
 rise_names hosts up =
-    let names = ascending-map below (λ (h : Host). h.name) hosts (ascending by_name by_name_total hosts up) in
+    let names = ascending-map below (λ (h : HostSum). h.name) hosts (ascending by_name by_name_total hosts up) in
     pairs_ascend below _ (in_pairs (slice_cmp nat_cmp) _ names)
 
 -- ---- hosts that are those of the grants
 
 -- a host as the grants have it
-abbrev host_with : List Grant → List ℕ → Host
+abbrev host_with : List Grant → List ℕ → HostSum
 host_with grants name = record { name = name; total = credit_of grants name; grants = grants_of grants name }
 
-got_in : (hosts : List Host) (k : ℕ) (d : Host) → k < length hosts → Has hosts (get_or hosts k d)
+got_in : (hosts : List HostSum) (k : ℕ) (d : HostSum) → k < length hosts → Has hosts (get_or hosts k d)
 got_in [] k d low = absurd (omega (arith, low))
 got_in (h ∷ hosts) zero d low = inl refl
 got_in (h ∷ hosts) (suc k) d low = inr (got_in hosts k d (omega (arith, low)))
 
-module _ (grants : List Grant) (hosts : List Host) where
-  names_are : AreHosts grants hosts → map (λ (h : Host). h.name) hosts ≡ hosts_of grants
-  names_are are = same_names (map (λ (h : Host). h.name) hosts) (hosts_of grants) (rise_names hosts are.rise) (once grants) there back
+module _ (grants : List Grant) (hosts : List HostSum) where
+  names_are : AreHosts grants hosts → map (λ (h : HostSum). h.name) hosts ≡ hosts_of grants
+  names_are are = same_names (map (λ (h : HostSum). h.name) hosts) (hosts_of grants) (rise_names hosts are.rise) (once grants) there back
     where
-      there : (n : List ℕ) → Has (map (λ (h : Host). h.name) hosts) n → Has (hosts_of grants) n
+      there : (n : List ℕ) → Has (map (λ (h : HostSum). h.name) hosts) n → Has (hosts_of grants) n
       there n has =
-          let it = has_mapped (λ (h : Host). h.name) hosts n has in
+          let it = has_mapped (λ (h : HostSum). h.name) hosts n has in
           let is = all_has (IsGranted grants) hosts it.0 (recursion_from_All (IsGranted grants) hosts are.each) it.1 in
           let some = is.some in
           let count = is.count in
           subst (Has (hosts_of grants)) (sym it.2) (granted_there grants it.0.name (omega (arith, some, count)))
 
-      back : (n : List ℕ) → Has (hosts_of grants) n → Has (map (λ (h : Host). h.name) hosts) n
-      back n has = all_has (Has (map (λ (h : Host). h.name) hosts)) (hosts_of grants) n (each_host (Has (map (λ (h : Host). h.name) hosts)) grants (all_from (λ (g : Grant). Has (map (λ (h : Host). h.name) hosts) g.host) grants (λ g in_grants.
+      back : (n : List ℕ) → Has (hosts_of grants) n → Has (map (λ (h : HostSum). h.name) hosts) n
+      back n has = all_has (Has (map (λ (h : HostSum). h.name) hosts)) (hosts_of grants) n (each_host (Has (map (λ (h : HostSum). h.name) hosts)) grants (all_from (λ (g : Grant). Has (map (λ (h : HostSum). h.name) hosts) g.host) grants (λ g in_grants.
           let listed = all_has (λ (x : Grant). IsListed hosts x.host) grants g (recursion_from_All (λ (x : Grant). IsListed hosts x.host) grants are.listed) in_grants in
-          subst (Has (map (λ (h : Host). h.name) hosts)) listed.3 (mapped_has (λ (h : Host). h.name) hosts (get_or hosts listed.0 listed.1) (got_in hosts listed.0 listed.1 listed.2))))) has
+          subst (Has (map (λ (h : HostSum). h.name) hosts)) listed.3 (mapped_has (λ (h : HostSum). h.name) hosts (get_or hosts listed.0 listed.1) (got_in hosts listed.0 listed.1 listed.2))))) has
 
   -- so their rows are
   pub hosts_are : AreHosts grants hosts → map host_row hosts ≡ map (host_of grants) (hosts_of grants)
   hosts_are are = each_row hosts (recursion_from_All (IsGranted grants) hosts are.each) ∙ ap (map (host_of grants)) (names_are are)
     where
-      each_row : (hosts : List Host) → AllByRecursion (IsGranted grants) hosts → map host_row hosts ≡ map (host_of grants) (map (λ (h : Host). h.name) hosts)
+      each_row : (hosts : List HostSum) → AllByRecursion (IsGranted grants) hosts → map host_row hosts ≡ map (host_of grants) (map (λ (h : HostSum). h.name) hosts)
       each_row [] each = refl
       each_row (h ∷ hosts) each = λ i. host_cells h.name (each.0.total i) (each.0.count i) ∷ each_row hosts each.1 i
 
 -- ---- no other hosts are
 
-one_host : (a b : Host) → host_row a ≡ host_row b → a ≡ b
+one_host : (a b : HostSum) → host_row a ≡ host_row b → a ≡ b
 one_host a b same = λ i. record { name = read_text (column (same i) 0); total = read_number (column (same i) 1); grants = read_number (column (same i) 2) }
 
 module _ (grants : List Grant) where
-  abbrev all_with : List (List ℕ) → List Host
+  abbrev all_with : List (List ℕ) → List HostSum
   all_with names = map (host_with grants) names
 
   with_rise : (names : List (List ℕ)) → Ascends below names → IsAscending (λ a b. by_name a b ≡ Less) (all_with names)
@@ -95,11 +96,11 @@ module _ (grants : List Grant) where
   }
 
   -- hosts whose rows are those of the grants' hosts are these
-  pub hosts_must : (hosts : List Host) → IsSorted by_name hosts → IsPermutation (map (host_of grants) (hosts_of grants)) (map host_row hosts) → AreHosts grants hosts
+  pub hosts_must : (hosts : List HostSum) → IsSorted by_name hosts → IsPermutation (map (host_of grants) (hosts_of grants)) (map host_row hosts) → AreHosts grants hosts
   hosts_must hosts up same =
       let all = all_with (hosts_of grants) in
       let rows : IsPermutation (map host_row all) (map host_row hosts) = subst (λ rs. IsPermutation rs (map host_row hosts)) (sym (map-map host_row (host_with grants) (hosts_of grants))) same in
-      subst (AreHosts grants) (sym (named_are (λ (h : Host). h.name) host_row (λ h. refl) one_host all hosts (with_rise (hosts_of grants) (once grants)) up rows)) hosts_with
+      subst (AreHosts grants) (sym (named_are (λ (h : HostSum). h.name) host_row (λ h. refl) one_host all hosts (with_rise (hosts_of grants) (once grants)) up rows)) hosts_with
 
 -- names of grants are names of hosts
 pub stored_hosts : (grants : List Grant) → All IsStoredGrant grants → All IsStoredHost (all_with grants (hosts_of grants))

@@ -1,15 +1,15 @@
 -- From question to question about the tables.
-use Rattle.wu_schema.proofs.Words.{Database, Err, Fault, Ghosts, HasCleanDisk, HasTables, Held, IfErr, IsErrAnd, IsFailure, Ok, ProjectTrees, Result, arith, inl, inr, refl, state, subst, sym, ℕ, ◌∙◌, ◌≡◌, ◌≢◌}
+use Rattle.wu_schema.proofs.Words.{Database, Err, Fault, Ghosts, HasCleanDisk, HasTables, Held, IsErrAnd, Ok, ProjectTrees, Result, arith, inl, inr, refl, state, subst, sym, ℕ, ◌∙◌, ◌≡◌, ◌≢◌}
 use Rattle.wu_core.specs.declared.fault.Fault.TheVariants.{Broken, Memory}
 use Rattle.wu_schema.proofs.AskingLemmas.{asks_fault, asks_made, asks_now, asks_then}
-use Rattle.wu_loader.specs.Asked.{HasArranged, Looks}
+use Rattle.wu_loader.specs.Asked.{HasArranged, LooksAtTables}
 
 -- what holds of the tables after some answers
 abbrev pub Known : Type 1
 Known = Database → ProjectTrees → Type 0
 
 abbrev pub HasLooked : {S : Type 0} → ℕ → Ghosts S → Held S → Held S → Known → Type 0
-HasLooked version g old new Is = Looks {T = Unit {0}} version g old new (Ok tt) (λ db trees _. Is db trees)
+HasLooked version g old new Is = LooksAtTables {T = Unit {0}} version g old new (Ok tt) (λ db trees _. Is db trees)
 
 pub never_broken : {T : Type 0} (x : T) → ◌≢◌ {A = Result T Fault} (Ok x) (Err Broken)
 never_broken x is = absurd cc
@@ -19,7 +19,7 @@ memory_other is = absurd cc
 
 module _ {S : Type 0} (version : ℕ) (g : Ghosts S) (a b : Held S) where
   -- the first answer
-  pub looked : {T : Type 0} (x : T) (Is : Database → ProjectTrees → T → Type 0) → Looks version g a b (Ok x) Is → HasLooked version g a b (λ db trees. Is db trees x)
+  pub looked : {T : Type 0} (x : T) (Is : Database → ProjectTrees → T → Type 0) → LooksAtTables version g a b (Ok x) Is → HasLooked version g a b (λ db trees. Is db trees x)
   looked x Is it = record {
     asks = asks_made g a b x (Ok tt) (never_broken tt) it.asks;
     opens = it.opens;
@@ -29,7 +29,7 @@ module _ {S : Type 0} (version : ℕ) (g : Ghosts S) (a b : Held S) where
   }
 
   -- what is made of the answers
-  pub looks_made : {U : Type 0} (Is : Known) (y : U) (Then : Database → ProjectTrees → U → Type 0) → ((db : Database) (trees : ProjectTrees) → Is db trees → Then db trees y) → HasLooked version g a b Is → Looks version g a b (Ok y) Then
+  pub looks_made : {U : Type 0} (Is : Known) (y : U) (Then : Database → ProjectTrees → U → Type 0) → ((db : Database) (trees : ProjectTrees) → Is db trees → Then db trees y) → HasLooked version g a b Is → LooksAtTables version g a b (Ok y) Then
   looks_made Is y Then made it = record {
     asks = asks_made g a b tt (Ok y) (never_broken y) it.asks;
     opens = it.opens;
@@ -39,7 +39,7 @@ module _ {S : Type 0} (version : ℕ) (g : Ghosts S) (a b : Held S) where
   }
 
   -- want of memory after the answers
-  pub looks_memory : {U : Type 0} (Is : Known) (Then : Database → ProjectTrees → U → Type 0) → HasLooked version g a b Is → Looks version g a b (Err Memory) Then
+  pub looks_memory : {U : Type 0} (Is : Known) (Then : Database → ProjectTrees → U → Type 0) → HasLooked version g a b Is → LooksAtTables version g a b (Err Memory) Then
   looks_memory Is Then it = record {
     asks = asks_made g a b tt (Err Memory) memory_other it.asks;
     opens = λ clean. inr (it.opens clean);
@@ -49,9 +49,9 @@ module _ {S : Type 0} (version : ℕ) (g : Ghosts S) (a b : Held S) where
   }
 
   -- a fault that is handed on
-  pub looks_fault : {T U : Type 0} (fault : Fault) (Is : Database → ProjectTrees → T → Type 0) (Then : Database → ProjectTrees → U → Type 0) → Looks version g a b (Err fault) Is → (r : Result U Fault) → IsErrAnd r (λ other. other ≡ fault) → Looks version g a b r Then
+  pub looks_fault : {T U : Type 0} (fault : Fault) (Is : Database → ProjectTrees → T → Type 0) (Then : Database → ProjectTrees → U → Type 0) → LooksAtTables version g a b (Err fault) Is → (r : Result U Fault) → IsErrAnd r (λ other. other ≡ fault) → LooksAtTables version g a b r Then
   looks_fault fault Is Then it (Ok y) same = absurd same
-  looks_fault fault Is Then it (Err other) same = subst (λ f. Looks version g a b (Err f) Then) (sym same) (record {
+  looks_fault fault Is Then it (Err other) same = subst (λ f. LooksAtTables version g a b (Err f) Then) (sym same) (record {
     asks = asks_fault g a b fault it.asks;
     opens = it.opens;
     says = λ clean trees has. tt;
@@ -60,7 +60,7 @@ module _ {S : Type 0} (version : ℕ) (g : Ghosts S) (a b : Held S) where
   })
 
 module _ {S : Type 0} (version : ℕ) (g : Ghosts S) (a b c : Held S) (Is : Known) (one : HasLooked version g a b Is) where
-  module _ {T : Type 0} (r : Result T Fault) (Then : Database → ProjectTrees → T → Type 0) (two : Looks version g b c r Then) where
+  module _ {T : Type 0} (r : Result T Fault) (Then : Database → ProjectTrees → T → Type 0) (two : LooksAtTables version g b c r Then) where
     before : HasCleanDisk (state g c) → HasCleanDisk (state g b)
     before clean = omega (arith, two.asks.crash.clean)
 
@@ -71,7 +71,7 @@ module _ {S : Type 0} (version : ℕ) (g : Ghosts S) (a b c : Held S) (Is : Know
     limit = one.asks.crash.limit
 
   -- one more answer
-  pub looks_next : {T : Type 0} (x : T) (Then : Database → ProjectTrees → T → Type 0) → Looks version g b c (Ok x) Then → HasLooked version g a c (λ db trees. Is db trees × Then db trees x)
+  pub looks_next : {T : Type 0} (x : T) (Then : Database → ProjectTrees → T → Type 0) → LooksAtTables version g b c (Ok x) Then → HasLooked version g a c (λ db trees. Is db trees × Then db trees x)
   looks_next x Then two = record {
     asks = asks_then g a b c tt one.asks (Ok tt) (asks_made g b c x (Ok tt) (never_broken tt) two.asks);
     opens = two.opens;
@@ -84,7 +84,7 @@ module _ {S : Type 0} (version : ℕ) (g : Ghosts S) (a b c : Held S) (Is : Know
   }
 
   -- or none
-  pub looks_ended : {T U : Type 0} (fault : Fault) (Then : Database → ProjectTrees → T → Type 0) (Last : Database → ProjectTrees → U → Type 0) → Looks version g b c (Err fault) Then → (r : Result U Fault) → IsErrAnd r (λ other. other ≡ fault) → Looks version g a c r Last
+  pub looks_ended : {T U : Type 0} (fault : Fault) (Then : Database → ProjectTrees → T → Type 0) (Last : Database → ProjectTrees → U → Type 0) → LooksAtTables version g b c (Err fault) Then → (r : Result U Fault) → IsErrAnd r (λ other. other ≡ fault) → LooksAtTables version g a c r Last
   looks_ended {T} {U} fault Then Last two r told = looks_fault version g a c {T = T} fault (λ db trees x. Unit {0}) Last (record {
     asks = asks_then g a b c tt one.asks (Err fault) two.asks;
     opens = two.opens;

@@ -3,7 +3,7 @@ use Rattle.wu_schema.proofs.Words.{Fault, Ghosts, Held, IfErr, List, Result, Row
 use Rattle.wu_schema.proofs.Parts.{Archive, Grants, HostClasses, Hosts, Imports, Instances, Project, WorkClasses, Workunits}
 use Rattle.wu_schema.specs.Asking.{Asks, FailsAll, IsSelect, ServesUnlessFailed, ShowsAll}
 use Rattle.wu_schema.specs.Faults.{IsStoreFault}
-use Rattle.wu_loader.specs.Asked.{Looks}
+use Rattle.wu_loader.specs.Asked.{LooksAtTables}
 use Rattle.wu_loader.specs.Questions.{IsTableIn, question, ShowsTable}
 use Rattle.wu_loader.specs.Shown.{keyed, unkeyed}
 use Rattle.wu_loader.specs.declared.finding.LoadedTable.{LoadedTable}
@@ -12,7 +12,7 @@ use Rattle.wu_loader.proofs.SelectLemmas.{table_asked, table_fits, looks_whole, 
 
 module _ {S A : Type 0} (version : ℕ) (g : Ghosts S) (old new : Held S) (r : Result (Vec Row A) Fault) where
   asked_about : (t : LoadedTable) → IsTableIn version t → (IsSelect (question t) → Asks g old new r) → (IsSelect (question t) → ServesUnlessFailed g new r) → ShowsAll g old new r (question t) [] → FailsAll g old new r (question t) [] → IfErr r IsStoreFault
-      → Looks version g old new r (λ db trees rows. ShowsTable t db.trees trees rows.items)
+      → LooksAtTables version g old new r (λ db trees rows. ShowsTable t db.trees trees rows.items)
   asked_about table.Project there = looks_whole version Project tt (table_asked table.Project) (table_fits table.Project) refl g old new [] refl (λ db trees rows. ShowsTable table.Project db.trees trees rows)
       (λ trees has rows h. shows_in_order _ _ _ (table_fits table.Project trees.project) (state g old) (state g new) _ has.tables.project.1 (keyed 3) (λ r. refl) rows h refl has.arranged.project.0) r
   asked_about table.Workunit there = looks_whole version Workunits tt (table_asked table.Workunit) (table_fits table.Workunit) refl g old new [] refl (λ db trees rows. ShowsTable table.Workunit db.trees trees rows)
@@ -34,7 +34,7 @@ module _ {S A : Type 0} (version : ℕ) (g : Ghosts S) (old new : Held S) (r : R
 
   -- in the words in which it was asked
   pub looks_at : (t : LoadedTable) → IsTableIn version t → (text : List ℕ) → text ≡ question t → (IsSelect text → Asks g old new r) → (IsSelect text → ServesUnlessFailed g new r) → ShowsAll g old new r text [] → FailsAll g old new r text [] → IfErr r IsStoreFault
-      → Looks version g old new r (λ db trees rows. ShowsTable t db.trees trees rows.items)
+      → LooksAtTables version g old new r (λ db trees rows. ShowsTable t db.trees trees rows.items)
   looks_at t there text is asks opens shows fails = asked_about t there
       (subst (λ x. IsSelect x → Asks g old new r) is asks) (subst (λ x. IsSelect x → ServesUnlessFailed g new r) is opens)
       (subst (λ x. ShowsAll g old new r x []) is shows) (subst (λ x. FailsAll g old new r x []) is fails)

@@ -1,19 +1,15 @@
 -- How rows read as values.
-use Rattle.wu_schema.proofs.Words.{Err, Fault, Grant, Import, Instance, IsErrAnd, NotAProject, Ok, Result, Row, Value, [], ap, column, drop, import_cells, inl, inr, instance_row, length, map, number, refl, subst, suc, sym, text_or_null, ℕ, ⊤, ◌++◌, ◌∙◌, ◌∷◌, ◌≡◌}
+use Rattle.wu_schema.proofs.Words.{Err, Fault, Grant, Import, Instance, IsErrAnd, NotAProject, Ok, Result, Row, Value, [], ap, column, drop, import_cells, inl, inr, instance_row, length, map, number, refl, subst, suc, sym, ℕ, ⊤, ◌++◌, ◌∙◌, ◌∷◌, ◌≡◌}
 use Rattle.std.specs.List.{range_with_len}
 use Rattle.wu_core.specs.World.{MayBeKept}
 use Rattle.sqlite.specs.declared.types.Value.TheVariants.{Text, Blob}
-use Rattle.wu_core.specs.Storable.{AreVerdicts, IsHost, IsName, IsOutput, MayBeInstance}
+use Rattle.wu_core.specs.Storable.{AreVerdicts, IsName, IsStoredInstance}
 use Rattle.wu_schema.specs.Restoring.{Restores}
 use Rattle.wu_schema.specs.Reading.{columns, kind_cell, verdicts_cell}
-use Rattle.wu_core.specs.Formed.{IsInstance}
 use Rattle.wu_schema.proofs.ReadLemmas.{if_ok}
 use Rattle.wu_schema.proofs.ReadingLemmas.{not_ok, whole_row}
 use Rattle.wu_store.proofs.SameWorld.{import_again, read_import, read_number, read_text, same_by, same_instances}
-use Rattle.wu_loader.specs.Cells.{moment_cells, state_cells, HasMoments}
-use Rattle.wu_loader.specs.declared.rows.PlacedMoments.{PlacedMoments}
 use Rattle.wu_loader.specs.declared.rows.Placed.{Placed}
-use Rattle.wu_loader.specs.declared.rows.PlacedStates.{PlacedStates}
 use Rattle.wu_loader.specs.Rows.{grant_row, placed_row, IsStoredImport, IsStoredPlaced}
 
 -- a row that is the row of one value alone is read as it
@@ -70,15 +66,6 @@ module _ (row : Row) (a : Import) (reads : ImportReads row a) where
 
 -- ---- parts of a row
 
--- a row with a part that can't be read is stored of nothing
-part_unread : {T U : Type 0} (part : T → U) (row : Row) (from count : ℕ) (stored_as : T → Row) (cells : U → Row) (IsValue : T → Type 0) (IsPart : U → Type 0)
-    → ((t : T) → IsValue t → IsPart (part t)) → ((t : T) → columns (stored_as t) from count ≡ cells (part t)) → (f : Fault) → Restores cells IsPart (columns row from count) (Err f) → Restores stored_as IsValue row (Err f)
-part_unread part row from count stored_as cells IsValue IsPart are shown f unread = record {
-  value = tt;
-  found = λ t is same. not_ok f (part t) t (unread.found (part t) (are t is) (ap (λ r. columns r from count) same ∙ shown t));
-  refused = unread.refused;
-}
-
 -- a row with a column that can't be read is stored of nothing
 pub column_unread : {T U : Type 0} (part : T → U) (row : Row) (at : ℕ) {stored_as : T → Row} {cell : U → Value} {IsValue : T → Type 0} {IsPart : U → Type 0}
     → ((t : T) → IsValue t → IsPart (part t)) → ((t : T) → column (stored_as t) at ≡ cell (part t)) → {f : Fault} → Restores cell IsPart (column row at) (Err f) → (r : Result T Fault) → IsErrAnd r (λ other. other ≡ f) → Restores stored_as IsValue row r
@@ -91,39 +78,19 @@ column_unread part row at {stored_as} {cell} {IsValue} {IsPart} are shown {f} un
 
 -- ---- instances
 
--- the states and the moments of an instance
-abbrev states_of : Instance → PlacedStates
-states_of i = record { server_state = i.server_state; outcome = i.outcome; validate_state = i.validate_state; file_delete = i.file_delete }
-
-abbrev moments_of : Instance → PlacedMoments
-moments_of i = record { sent_at = i.sent_at; deadline = i.deadline; received_at = i.received_at }
-
-pub states_unread : (row : Row) (f : Fault) → Restores state_cells (λ _. ⊤) (columns row 2 4) (Err f) → Restores instance_row MayBeInstance (columns row 2 9) (Err f)
-states_unread row = part_unread states_of (columns row 2 9) 0 4 instance_row state_cells MayBeInstance (λ _. ⊤) (λ i is. tt) (λ i. refl)
-
-pub moments_unread : (row : Row) (f : Fault) → Restores moment_cells HasMoments (columns row 7 3) (Err f) → Restores instance_row MayBeInstance (columns row 2 9) (Err f)
-moments_unread row = part_unread moments_of (columns row 2 9) 5 3 instance_row moment_cells MayBeInstance HasMoments (λ i is. is.moments) (λ i. refl)
-
 one_instance : (a b : Instance) → instance_row a ≡ instance_row b → a ≡ b
 one_instance a b same = let lists : a ∷ [] ≡ b ∷ [] = same_instances (a ∷ []) (b ∷ []) (λ i. same i ∷ []) in cc
-
-pub instance_reads : (row : Row) (i : Instance) → Restores state_cells (λ _. ⊤) (columns row 2 4) (Ok (states_of i)) → Restores text_or_null IsHost (column row 6) (Ok i.host) → Restores moment_cells HasMoments (columns row 7 3) (Ok (moments_of i))
-    → Restores Blob IsOutput (column row 10) (Ok i.output) → Restores instance_row MayBeInstance (columns row 2 9) (Ok i)
-instance_reads row i states_are host_is moments_are output_is =
-    reads_as instance_row MayBeInstance (columns row 2 9) i
-    (λ k. states_are.value.0 k ++ (host_is.value.0 k ∷ moments_are.value.0 k ++ (output_is.value.0 k ∷ [])))
-    (record { host = host_is.value.1; moments = moments_are.value.1; output = output_is.value.1 }) (λ a b is_a is_b. one_instance a b)
 
 pub one_placed : (a b : Placed) → placed_row a ≡ placed_row b → a ≡ b
 one_placed a b same =
     let instance = one_instance a.instance b.instance (ap (λ r. drop 2 r) same) in
     (λ i. record { workunit = read_number (column (same i) 0); n = read_number (column (same i) 1); instance = instance i })
 
-pub placed_reads : (row : Row) (p : Placed) → length row ≡ 11 → Restores number (λ _. ⊤) (column row 0) (Ok p.workunit) → Restores number (λ _. ⊤) (column row 1) (Ok p.n) → Restores instance_row MayBeInstance (columns row 2 9) (Ok p.instance)
-    → IsInstance p.instance → Restores placed_row IsStoredPlaced row (Ok p)
-placed_reads row p long workunit_is n_is instance_is formed =
+pub placed_reads : (row : Row) (p : Placed) → length row ≡ 11 → Restores number (λ _. ⊤) (column row 0) (Ok p.workunit) → Restores number (λ _. ⊤) (column row 1) (Ok p.n) → Restores instance_row IsStoredInstance (columns row 2 9) (Ok p.instance)
+    → Restores placed_row IsStoredPlaced row (Ok p)
+placed_reads row p long workunit_is n_is instance_is =
     reads_as placed_row IsStoredPlaced row p
-    (columns_of row 11 long ∙ (λ i. workunit_is.value.0 i ∷ n_is.value.0 i ∷ instance_is.value.0 i)) (record { values = instance_is.value.1; formed = formed }) (λ a b is_a is_b. one_placed a b)
+    (columns_of row 11 long ∙ (λ i. workunit_is.value.0 i ∷ n_is.value.0 i ∷ instance_is.value.0 i)) instance_is.value.1 (λ a b is_a is_b. one_placed a b)
 
 -- ---- grants
 

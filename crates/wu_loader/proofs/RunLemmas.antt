@@ -12,7 +12,7 @@ use Rattle.wu_core.specs.Hosts.{credit_of, grants_of, is_to}
 use Rattle.wu_core.specs.declared.workunit.Grant.{Grant}
 use Rattle.wu_store.proofs.GrantSums.{same_count, same_credit}
 use Rattle.wu_loader.specs.Granting.{by_host, referred, AreHosts, IsGranted, IsListed, IsUngranted, IsWrongHost}
-use Rattle.wu_loader.specs.declared.rows.Host.{Host}
+use Rattle.wu_schema.specs.declared.rows.HostSum.{HostSum}
 
 -- ---- references to grants
 
@@ -128,7 +128,7 @@ module _ (name : List ℕ) where
 
 -- ---- what a host was granted, by its run
 
-module _ (grants run : List (Bor Grant)) (host : Host) (is : referred run ≡ filter (is_to host.name) (referred grants)) where
+module _ (grants run : List (Bor Grant)) (host : HostSum) (is : referred run ≡ filter (is_to host.name) (referred grants)) where
   pub run_credit : credit_of (referred grants) host.name ≡ sum_by (λ (g : Bor Grant). g.now.credit) run
   run_credit = ap (λ gs. sum_by (λ (g : Grant). g.credit) gs) (sym is) ∙ sum_referred run
 
@@ -146,12 +146,12 @@ module _ (grants run : List (Bor Grant)) (host : Host) (is : referred run ≡ fi
 
 -- ---- grants in another order
 
-granted_moved : (xs ys : List Grant) → IsPermutation xs ys → (host : Host) → IsGranted ys host → IsGranted xs host
+granted_moved : (xs ys : List Grant) → IsPermutation xs ys → (host : HostSum) → IsGranted ys host → IsGranted xs host
 granted_moved xs ys moved host is = record { total = is.total ∙ same_credit xs ys moved host.name; count = is.count ∙ same_count xs ys moved host.name; some = is.some }
 
 module _ (xs ys : List Grant) (moved : IsPermutation xs ys) where
   -- the hosts of grants are those of the same grants in another order
-  pub hosts_moved : (hosts : List Host) → AreHosts ys hosts → AreHosts xs hosts
+  pub hosts_moved : (hosts : List HostSum) → AreHosts ys hosts → AreHosts xs hosts
   hosts_moved hosts are = record {
     rise = are.rise;
     each = λ k d low. granted_moved xs ys moved (get_or hosts k d) (are.each k d low);
@@ -159,7 +159,7 @@ module _ (xs ys : List Grant) (moved : IsPermutation xs ys) where
   }
 
   -- so is the first that has other sums
-  pub ungranted_moved : (hosts : List Host) (place : ℕ) → IsUngranted xs hosts place → IsUngranted ys hosts place
+  pub ungranted_moved : (hosts : List HostSum) (place : ℕ) → IsUngranted xs hosts place → IsUngranted ys hosts place
   ungranted_moved hosts place un = record {
     there = un.there;
     before = λ k d low. granted_moved ys xs (IsPermutation-sym xs ys moved) (get_or hosts k d) (un.before k d low);
@@ -167,7 +167,7 @@ module _ (xs ys : List Grant) (moved : IsPermutation xs ys) where
   }
 
   -- and the host that is none of theirs
-  pub wrong_moved : (hosts : List Host) (place : ℕ) → IsWrongHost xs hosts place → IsWrongHost ys hosts place
+  pub wrong_moved : (hosts : List HostSum) (place : ℕ) → IsWrongHost xs hosts place → IsWrongHost ys hosts place
   wrong_moved hosts place (inl low) = inl low
   wrong_moved hosts place (inr it) = inr (
     it.0,

@@ -10,7 +10,7 @@ use Rattle.wu_schema.proofs.ToldLemmas.{asked_told}
 use Rattle.wu_schema.specs.Asking.{Asks, FailsAll, IsSelect, ServesUnlessFailed, ShowsAll}
 use Rattle.wu_schema.specs.Faults.{IsStoreFault}
 use Rattle.wu_store.proofs.OrderAnswers.{sorted, sure_in_order}
-use Rattle.wu_loader.specs.Asked.{HasArranged, Looks}
+use Rattle.wu_loader.specs.Asked.{HasArranged, LooksAtTables}
 use Rattle.wu_loader.specs.Questions.{question}
 use Rattle.wu_loader.specs.declared.finding.LoadedTable.{LoadedTable}
 use Rattle.wu_loader.specs.declared.finding.LoadedTable.TheVariants as table
@@ -56,7 +56,7 @@ module _ (version : ℕ) (p : Part) (in_p : IsIn p version) (q : Asked) (fits : 
 
     pub looks_whole : {A : Type 0} (Is : Database → ProjectTrees → List Row → Type 0) → ((trees : ProjectTrees) → HasArranged version before.now trees → (rows : List Row) → Shown q.text [] before (state g new) rows → Is before.now trees rows)
         → (r : Result (Vec Row A) Fault) → (IsSelect q.text → Asks g old new r) → (IsSelect q.text → ServesUnlessFailed g new r) → ShowsAll g old new r q.text given → FailsAll g old new r q.text given → IfErr r IsStoreFault
-        → Looks version g old new r (λ db trees rows. Is db trees rows.items)
+        → LooksAtTables version g old new r (λ db trees rows. Is db trees rows.items)
     looks_whole Is says r asks opens shows fails store = record {
       asks = asks selects;
       opens = opens selects;

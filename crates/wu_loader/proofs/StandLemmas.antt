@@ -2,7 +2,7 @@
 use Rattle.wu_schema.proofs.Words.{None, Option, class_cells, host_class_at, stored_class, workunit_class_at, Archived, Bool, Column, Database, Grant, Has, HasNamed, Import, ImportKind, Int, IsAscending, IsDatabase, IsPermutation, IsPermutation-filter, IsPermutation-sym, IsPermutation-trans, List, Null, ProjectTrees, Row, Some, Table, Text, Workunit, World, [], all_has, ap, archived_at, arith, column, drop, enumerate_from, false, flat_map, grant_at, has_mapped, host_at, import_at, import_cells, inl, inr, instances_of, length, length-map, map, map-map, mapped_has, number, project_at, refl, result_at, stored_archived, stored_grant, stored_workunit, subst, suc, sym, true, workunit_at, workunit_row, ℕ, ◌+◌, ◌∙◌, ◌∷◌, ◌≡◌, ◌≢◌, hosts_of, Binary, equal, import_kind_code, is_import, Blob, verdict_digits, Less, IsTrue, all_from, and_from, and_parts, bytes_eq-Decides, cond, eq-eqb, eqb-true, false_from_ne_true, filter, filter-map, first_key, is_eq, is_int, length_permutation, rowid, value_cmp, ℤ, ◌&&◌, ◌<◌, ◌==◌, ◌≤◌}
 use Rattle.sqlite_schema.specs.Rules.{are_typed}
 use Rattle.wu_core.specs.Hosts.{grants_of}
-use Rattle.wu_schema.specs.Refines.{HasClasses, HasRows, IsClassless, host_of}
+use Rattle.wu_schema.specs.Refines.{HasClasses, HasRows, LacksClasses, host_of}
 use Rattle.wu_schema.specs.Tables.{IsClassedVersion}
 use Rattle.std.proofs.lemmas.List.{map-id}
 use Rattle.std.proofs.lemmas.List.Elements.{All-from_recursion, recursion_from_All}
@@ -16,7 +16,7 @@ use Rattle.wu_store.proofs.OnceLemmas.{has_permuted, key_once, kind_in, one_pass
 use Rattle.wu_loader.specs.Asked.{HasArranged}
 use Rattle.wu_loader.specs.Dealing.{placed_of}
 use Rattle.wu_loader.specs.Rows.{archived_row, classed_of, classed_row, grant_row, placed_row, project_row}
-use Rattle.wu_loader.specs.Shown.{behind_key, keyed, unkeyed, AreArranged, AreWhole, IsArranged, Shows, ShowsClasses, ShowsPlain}
+use Rattle.wu_loader.specs.Shown.{behind_key, keyed, unkeyed, AreArranged, AreWhole, IsArranged, ShowsTables, ShowsClasses, ShowsPlain}
 use Rattle.wu_loader.specs.Worlds.{project_of, AreAnyClassRowsOf, AreClassRowsOf, ArePlainRowsOf, AreRowsOf}
 use Rattle.wu_loader.specs.declared.tables.ClassRows.{ClassRows}
 use Rattle.wu_loader.specs.declared.tables.PlainRows.{PlainRows}
@@ -222,7 +222,7 @@ module _ (version : ℕ) (db : Database) (trees : ProjectTrees) (rows : PlainRow
       with_classes None shows same on = absurd (shows on)
       with_classes (Some found) shows same on = classes_stand on found shows.1 same
 
-      without : (classes : Option ClassRows) → MatchOption classes (¬ IsClassedVersion version) (λ found. IsClassedVersion version × ShowsClasses db.trees trees found) → AreAnyClassRowsOf classes world → ¬ IsClassedVersion version → IsClassless world
+      without : (classes : Option ClassRows) → MatchOption classes (¬ IsClassedVersion version) (λ found. IsClassedVersion version × ShowsClasses db.trees trees found) → AreAnyClassRowsOf classes world → ¬ IsClassedVersion version → LacksClasses world
       without None shows same off = same
       without (Some found) shows same off = absurd (off shows.0)
 
@@ -281,5 +281,5 @@ module _ (db : Database) (trees : ProjectTrees) (world : World) (stands : HasRow
         workunits = shown.workunits ∙ ap (map (keyed 2)) has.workunits.same ∙ map-map (keyed 2) stored_class world.workunits ∙ sym (map-map classed_row classed_of world.workunits);
       }
 
-  pub stands_shown : (read : TableRows) → Shows world.version db.trees trees read → AreRowsOf world.version read world
+  pub stands_shown : (read : TableRows) → ShowsTables world.version db.trees trees read → AreRowsOf world.version read world
   stands_shown read shown = record { plain = plain_shown read.plain shown.plain; classes = classes_shown read.classes shown.classes; in_order = stands.classes_in_order; version = refl }

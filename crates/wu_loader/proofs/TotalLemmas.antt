@@ -9,14 +9,15 @@ use Rattle.wu_loader.specs.Finding.{IsShownWrong}
 use Rattle.wu_loader.specs.First.{rank, AreRightBefore, IsRightOfClasses, IsRightPlain}
 use Rattle.wu_loader.specs.Granting.{by_name, referred, IsUngranted, Rise}
 use Rattle.wu_loader.specs.Questions.{ShowsTable}
-use Rattle.wu_loader.specs.Rows.{grant_row, host_row, IsStoredHost}
+use Rattle.wu_loader.specs.Rows.{grant_row}
+use Rattle.wu_schema.specs.Reading.{host_row, IsStoredHost}
 use Rattle.wu_loader.specs.Totals.{HasOtherSums, IsFirstOfOtherSums, ShowsOtherSums}
 use Rattle.wu_loader.specs.Whole.{rows_of, AreSorted}
 use Rattle.wu_loader.specs.Wrongs.{IsWrongHostBeside}
 use Rattle.wu_loader.specs.declared.finding.LoadedTable.{LoadedTable}
 use Rattle.wu_loader.specs.declared.finding.LoadedTable.TheVariants as table
 use Rattle.wu_loader.specs.declared.finding.WrongRow as told
-use Rattle.wu_loader.specs.declared.rows.Host.{Host}
+use Rattle.wu_schema.specs.declared.rows.HostSum.{HostSum}
 use Rattle.wu_loader.specs.declared.tables.PlainRows.{PlainRows}
 use Rattle.wu_loader.specs.declared.tables.TableRows.{TableRows}
 use Rattle.wu_loader.specs.declared.totals.OtherSums.{OtherSums}
@@ -25,7 +26,7 @@ use Rattle.wu_loader.proofs.RunLemmas.{run_count, run_credit, ungranted_moved}
 -- ---- sums of grants
 
 -- the sums of its run are those of the host's grants
-pub sums_of_run : (grants run : List (Bor Grant)) (kept : Host) (credit count : ℕ) → referred run ≡ filter (is_to kept.name) (referred grants) → credit ≡ sum_by (λ (g : Bor Grant). g.now.credit) run → count ≡ length run → (kept.total ≡ credit → kept.grants ≡ count → ⊥)
+pub sums_of_run : (grants run : List (Bor Grant)) (kept : HostSum) (credit count : ℕ) → referred run ≡ filter (is_to kept.name) (referred grants) → credit ≡ sum_by (λ (g : Bor Grant). g.now.credit) run → count ≡ length run → (kept.total ≡ credit → kept.grants ≡ count → ⊥)
     → HasOtherSums (referred grants) (record { kept = kept; credit = credit; grants = count })
 sums_of_run grants run kept credit count is sum long differ = record { credit = sum ∙ sym (run_credit grants run kept is); count = long ∙ sym (run_count grants run kept is); differ = differ }
 
@@ -39,7 +40,7 @@ sums_moved xs ys moved sums other = record {
 
 -- ---- the host that is found
 
-module _ (given rows : List Row) (grants sorted : List Grant) (hosts : List Host) (place : ℕ) (given_are : given ≡ rows_of grant_row grants) (moved : IsPermutation sorted grants) (read : AreSorted host_row IsStoredHost by_name rows hosts) (rise : Rise hosts) (un : IsUngranted sorted hosts place) where
+module _ (given rows : List Row) (grants sorted : List Grant) (hosts : List HostSum) (place : ℕ) (given_are : given ≡ rows_of grant_row grants) (moved : IsPermutation sorted grants) (read : AreSorted host_row IsStoredHost by_name rows hosts) (rise : Rise hosts) (un : IsUngranted sorted hosts place) where
   pub other_found : (found : Option OtherSums) → IfSome found (λ sums. slice_get hosts place ≡ Some sums.kept) → IfSome found (HasOtherSums sorted) → IfSome found (λ sums. (n : ℕ) × IsFirstOfOtherSums given rows n sums)
   other_found None there other = tt
   other_found (Some sums) there other = (

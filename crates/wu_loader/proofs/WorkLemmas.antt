@@ -1,5 +1,7 @@
 -- The workunits that rows are those of.
 use Rattle.wu_schema.proofs.Words.{AllByRecursion, Equal, Instance, IsAscending, IsPermutation, IsPermutation-map, IsPermutation-sym, IsPermutation-trans, IsSorted, Less, List, Ordering, Row, Workunit, [], all_from, ap, arith, column, enumerate_from, flat_map, has_mapped, instance_cells, instances_of, length, map, map-map, on_total, refl, subst, sym, workunit_row, ℕ, ◌+◌, ◌<◌, ◌∙◌, ◌∷◌, ◌≡◌, ◌≤◌}
+use Rattle.wu_store.specs.Loading.{classless}
+use Rattle.wu_store.specs.Changes.{without_instances}
 use Rattle.std.specs.Prelude.{All}
 use Rattle.std.specs.Cmp.{IsTotalOrder}
 use Rattle.std.specs.Ordering.{nat_cmp, on, ordering_then, then_cmp}
@@ -10,8 +12,7 @@ use Rattle.sqlite_trees.proofs.ListLemmas.{all-append, all-map, all_weaker, asce
 use Rattle.wu_core.specs.Limits.{most_instances}
 use Rattle.wu_core.specs.Storable.{bare, IsStorable, IsStoredInstance, IsStoredWorkunit}
 use Rattle.wu_store.proofs.SameWorld.{read_number, same_workunit}
-use Rattle.wu_loader.specs.Dealing.{by_place, lone, placed_of, AreDealt}
-use Rattle.wu_loader.specs.Classing.{unclassed}
+use Rattle.wu_loader.specs.Dealing.{by_place, placed_of, AreDealt}
 use Rattle.wu_loader.specs.Rows.{placed_row, IsStoredPlaced}
 use Rattle.wu_loader.specs.Whole.{rows_of, IsNoRow}
 use Rattle.wu_loader.specs.Worlds.{AreRowsOfWorks, IsOrdered}
@@ -88,24 +89,24 @@ same_bares (v ∷ vs) (w ∷ ws) same =
 bare_rows : (ws : List Workunit) → map workunit_row (map bare ws) ≡ map workunit_row ws
 bare_rows ws = map-map workunit_row bare ws
 
-lone_rows : (ws : List Workunit) → map workunit_row (map lone ws) ≡ map workunit_row ws
-lone_rows ws = map-map workunit_row lone ws
+lone_rows : (ws : List Workunit) → map workunit_row (map without_instances ws) ≡ map workunit_row ws
+lone_rows ws = map-map workunit_row without_instances ws
 
 -- ---- without their classes
 
-placed_unclassed : (ws : List Workunit) → flat_map placed_of (map unclassed ws) ≡ flat_map placed_of ws
-placed_unclassed = flat_map-map placed_of unclassed
+placed_unclassed : (ws : List Workunit) → flat_map placed_of (map classless ws) ≡ flat_map placed_of ws
+placed_unclassed = flat_map-map placed_of classless
 
-pub ordered_unclassed : (ws : List Workunit) → IsOrdered ws → IsOrdered (map unclassed ws)
-ordered_unclassed = ascending-map (λ (one other : Workunit). one.number < other.number) unclassed
+pub ordered_unclassed : (ws : List Workunit) → IsOrdered ws → IsOrdered (map classless ws)
+ordered_unclassed = ascending-map (λ (one other : Workunit). one.number < other.number) classless
 
-few_unclassed : (ws : List Workunit) → AllByRecursion IsStorable ws → AllByRecursion (λ (w : Workunit). length w.instances ≤ most_instances) (map unclassed ws)
+few_unclassed : (ws : List Workunit) → AllByRecursion IsStorable ws → AllByRecursion (λ (w : Workunit). length w.instances ≤ most_instances) (map classless ws)
 few_unclassed [] all = tt
 few_unclassed (w ∷ ws) all = (all.0.instances.few, few_unclassed ws all.1)
 
-lone_bares : (bares : List Workunit) → AllByRecursion IsStoredWorkunit bares → map lone bares ≡ map bare bares
+lone_bares : (bares : List Workunit) → AllByRecursion IsStoredWorkunit bares → map without_instances bares ≡ map bare bares
 lone_bares [] all = refl
-lone_bares (w ∷ ws) all = λ i. record (lone w) { class = all.0.classless i } ∷ lone_bares ws all.1 i
+lone_bares (w ∷ ws) all = λ i. record (without_instances w) { class = all.0.classless i } ∷ lone_bares ws all.1 i
 
 -- ---- the workunits of the rows
 
@@ -126,11 +127,11 @@ module _ (rows instances : List Row) (bares : List Workunit) (workunits_are : ro
     }
 
     -- no others are dealt so, their classes aside
-    pub works_dealt : All IsStoredWorkunit bares → IsSorted by_place sorted → (ws : List Workunit) → IsOrdered ws → All IsStorable ws → AreRowsOfWorks rows instances ws → AreDealt bares sorted (map unclassed ws)
+    pub works_dealt : All IsStoredWorkunit bares → IsSorted by_place sorted → (ws : List Workunit) → IsOrdered ws → All IsStorable ws → AreRowsOfWorks rows instances ws → AreDealt bares sorted (map classless ws)
     works_dealt each up ws ordered storable are = record {
-      bare = map-map lone unclassed ws ∙ same_bares ws bares (sym are.workunits_are ∙ bare_is) ∙ sym (lone_bares bares (recursion_from_All IsStoredWorkunit bares each));
+      bare = map-map without_instances classless ws ∙ same_bares ws bares (sym are.workunits_are ∙ bare_is) ∙ sym (lone_bares bares (recursion_from_All IsStoredWorkunit bares each));
       all = placed_unclassed ws ∙ sym same;
-      few = All-from_recursion (λ (w : Workunit). length w.instances ≤ most_instances) (map unclassed ws) (few_unclassed ws (recursion_from_All IsStorable ws storable));
+      few = All-from_recursion (λ (w : Workunit). length w.instances ≤ most_instances) (map classless ws) (few_unclassed ws (recursion_from_All IsStorable ws storable));
     }
       where
         same : sorted ≡ flat_map placed_of ws

@@ -16,8 +16,8 @@ pub record HasArranged (version : ℕ) (db : Database) (trees : ProjectTrees) : 
   pub arranged : AreArranged version db.trees trees
 
 -- On a clean disk, this holds of an answer and of the tables of this version.
-abbrev pub Says : {S T : Type 0} → ℕ → Ghosts S → Held S → Held S → Result T Fault → (Database → ProjectTrees → T → Type 0) → Type 0
-Says version g old new result Is =
+abbrev pub SaysOfTables : {S T : Type 0} → ℕ → Ghosts S → Held S → Held S → Result T Fault → (Database → ProjectTrees → T → Type 0) → Type 0
+SaysOfTables version g old new result Is =
     HasCleanDisk (state g new) → (trees : ProjectTrees) → HasArranged version (state g old).now trees → IfOk result (Is (state g old).now trees)
 
 -- Over these tables, on a clean disk and without a limit on steps, the only faults are `Memory` and `Broken`.
@@ -26,9 +26,9 @@ IsAnsweredUnlessFailed version g old new result =
     HasCleanDisk (state g new) → (trees : ProjectTrees) → HasTables version (state g old).now.schema trees → old.step_limit ≡ None → IfErr result IsFailure
 
 -- What questions do to a connection, and what they report of the tables of a version.
-pub record Looks {S T : Type 0} (version : ℕ) (g : Ghosts S) (old new : Held S) (result : Result T Fault) (Is : Database → ProjectTrees → T → Type 0) : Type 0 where
+pub record LooksAtTables {S T : Type 0} (version : ℕ) (g : Ghosts S) (old new : Held S) (result : Result T Fault) (Is : Database → ProjectTrees → T → Type 0) : Type 0 where
   pub asks : Asks g old new result
   pub opens : ServesUnlessFailed g new result
-  pub says : Says version g old new result Is
+  pub says : SaysOfTables version g old new result Is
   pub fault : IfErr result IsStoreFault
   pub answered : IsAnsweredUnlessFailed version g old new result

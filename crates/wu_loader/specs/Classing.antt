@@ -6,16 +6,13 @@ use Rattle.std.specs.declared.cmp.Ordering.{Ordering}
 use Rattle.std.specs.declared.cmp.Ordering.TheVariants.{Less}
 use Rattle.wu_core.specs.declared.workunit.HostClass.{HostClass}
 use Rattle.wu_core.specs.declared.workunit.Workunit.{Workunit}
+use Rattle.wu_store.specs.Loading.{classless}
 use Rattle.wu_loader.specs.Rows.{classed_of}
 use Rattle.wu_loader.specs.declared.rows.Classed.{Classed}
 
--- The workunit with class 0.
-abbrev pub unclassed : Workunit → Workunit
-unclassed w = record w { class = 0 }
-
 -- The workunits, with these classes set.
 pub record AreClassedBy (workunits : List Workunit) (given : List Classed) (classed : List Workunit) : Type 0 where
-  pub same : map unclassed classed ≡ map unclassed workunits
+  pub same : map classless classed ≡ map classless workunits
   pub classes : map classed_of classed ≡ given
 
 -- The numbers of the workunits.

@@ -6,6 +6,7 @@ use Rattle.std.specs.declared.cmp.Ordering.{Ordering}
 use Rattle.wu_core.specs.Limits.{most_instances}
 use Rattle.wu_core.specs.declared.workunit.Instance.{Instance}
 use Rattle.wu_core.specs.declared.workunit.Workunit.{Workunit}
+use Rattle.wu_store.specs.Changes.{without_instances}
 use Rattle.wu_loader.specs.declared.rows.Placed.{Placed}
 
 -- The order of instances: by the workunit's number, then by their own.
@@ -24,13 +25,9 @@ abbrev pub IsNext : ℕ → ℕ → List Placed → Type 0
 IsNext workunit n [] = ⊥
 IsNext workunit n (p ∷ more) = (p.workunit ≡ workunit) × (p.n ≡ n)
 
--- The workunit without its instances.
-abbrev pub lone : Workunit → Workunit
-lone w = record w { instances = [] }
-
 -- These are the workunits, each with its share of these instances.
 pub record AreDealt (workunits : List Workunit) (placed : List Placed) (dealt : List Workunit) : Type 0 where
-  pub bare : map lone dealt ≡ map lone workunits
+  pub bare : map without_instances dealt ≡ map without_instances workunits
   pub all : flat_map placed_of dealt ≡ placed
   -- A workunit has at most 100 instances.
   pub few : All (λ (w : Workunit). length w.instances ≤ most_instances) dealt

@@ -10,7 +10,7 @@ use Rattle.wu_schema.specs.Refines.{Refines}
 use Rattle.wu_schema.specs.Tables.{ProjectTrees}
 use Rattle.wu_loader.specs.Asked.{HasArranged}
 use Rattle.wu_loader.specs.First.{IsFirstWrong}
-use Rattle.wu_loader.specs.Shown.{AreWhole, Shows}
+use Rattle.wu_loader.specs.Shown.{AreWhole, ShowsTables}
 use Rattle.wu_loader.specs.Worlds.{IsReadable}
 use Rattle.wu_loader.specs.declared.finding.Found.{Found}
 use Rattle.wu_loader.specs.declared.finding.Found.TheVariants as found
@@ -42,7 +42,7 @@ FindsNone version g old new result =
 -- The reported row is the first that is wrong, among those that questions show of the tables of this version.
 pub record IsShownWrong (version : ℕ) (db : Database) (trees : ProjectTrees) (wrong : WrongRow) : Type 0 where
   pub rows : TableRows
-  pub shown : Shows version db.trees trees rows
+  pub shown : ShowsTables version db.trees trees rows
   pub is : IsFirstWrong version rows wrong
 
 -- If a wrong row is reported, and the tables of this version are there with their rows in order, the row is the first

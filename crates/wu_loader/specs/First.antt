@@ -11,7 +11,8 @@ use Rattle.wu_core.specs.declared.workunit.HostClass.{HostClass}
 use Rattle.wu_core.specs.declared.workunit.Workunit.{Workunit}
 use Rattle.wu_schema.specs.Refines.{host_of}
 use Rattle.wu_schema.specs.Stored.{class_cells, import_cells}
-use Rattle.wu_loader.specs.Rows.{archived_row, grant_row, placed_row, project_row, IsStoredGrant, IsStoredHostClass, IsStoredImport, IsStoredPlaced, IsStoredProject}
+use Rattle.wu_loader.specs.Rows.{archived_row, grant_row, placed_row, project_row, IsStoredGrant, IsStoredImport, IsStoredPlaced, IsStoredProject}
+use Rattle.wu_schema.specs.Reading.{IsStoredHostClass}
 use Rattle.wu_loader.specs.Whole.{rows_of, AreOfValues}
 use Rattle.wu_loader.specs.Worlds.{AreRowsOfWorks}
 use Rattle.wu_loader.specs.Wrongs.{AreWorkunits, IsWrongClass, IsWrongPlain, IsWrongRow}
@@ -40,7 +41,7 @@ rank table.WorkunitClass = 8
 -- ---- tables without a wrong row
 
 -- The one row is that of a project of this version.
-pub record IsProject (version : ℕ) (rows : List Row) : Type 0 where
+pub record AreProjectRows (version : ℕ) (rows : List Row) : Type 0 where
   pub project : ProjectRow
   pub stored : IsStoredProject project
   pub is : project.version ≡ version
@@ -68,7 +69,7 @@ pub record AreHostClasses (rows : List Row) : Type 0 where
 
 -- No row of this table, which every version has, is wrong or missing.
 abbrev pub IsRightPlain : ℕ → PlainRows → LoadedTable → Type 0
-IsRightPlain version rows table.Project = IsProject version rows.project.items
+IsRightPlain version rows table.Project = AreProjectRows version rows.project.items
 IsRightPlain version rows table.Workunit = AreWorkunits rows.workunits.items
 IsRightPlain version rows table.Result = AreResults rows.workunits.items rows.instances.items
 IsRightPlain version rows table.CreditGrant = AreOfValues grant_row IsStoredGrant rows.grants.items

@@ -1,7 +1,6 @@
 pub mod Shown
 pub mod Questions
 pub mod Asked
-pub mod Cells
 pub mod Rows
 pub mod Whole
 pub mod Worlds

@@ -5,11 +5,9 @@ use Rattle.wu_core.specs.Storable.{AreVerdicts, IsClass, IsName, IsNextNumber, I
 use Rattle.wu_core.specs.World.{Import, MayBeKept}
 use Rattle.wu_core.specs.declared.workunit.Archived.{Archived}
 use Rattle.wu_core.specs.declared.workunit.Grant.{Grant}
-use Rattle.wu_core.specs.declared.workunit.HostClass.{HostClass}
 use Rattle.wu_core.specs.declared.workunit.Workunit.{Workunit}
-use Rattle.wu_schema.specs.Stored.{archived_cells, grant_cells, host_cells, instance_cells, number}
+use Rattle.wu_schema.specs.Stored.{archived_cells, grant_cells, instance_cells, number}
 use Rattle.wu_loader.specs.declared.rows.Classed.{Classed}
-use Rattle.wu_loader.specs.declared.rows.Host.{Host}
 use Rattle.wu_loader.specs.declared.rows.Placed.{Placed}
 use Rattle.wu_loader.specs.declared.rows.ProjectRow.{ProjectRow}
 
@@ -20,9 +18,6 @@ project_row p = number 1 ∷ number p.version ∷ number p.next_number ∷ []
 
 abbrev pub placed_row : Placed → Row
 placed_row p = instance_cells p.workunit p.n p.instance
-
-abbrev pub host_row : Host → Row
-host_row h = host_cells h.name h.total h.grants
 
 -- The row of a workunit's class: its number, and the class.
 abbrev pub classed_row : Classed → Row
@@ -47,9 +42,6 @@ pub record IsStoredProject (p : ProjectRow) : Type 0 where
 abbrev pub IsStoredPlaced : Placed → Type 0
 IsStoredPlaced p = IsStoredInstance p.instance
 
-abbrev pub IsStoredHost : Host → Type 0
-IsStoredHost h = IsName h.name
-
 -- The grant has values that a row may have; the number of its instance fits into 32 bits.
 pub record IsStoredGrant (g : Grant) : Type 0 where
   pub host : IsName g.host
@@ -62,7 +54,3 @@ pub record IsStoredImport (i : Import) : Type 0 where
 
 abbrev pub IsStoredClass : Classed → Type 0
 IsStoredClass c = IsClass c.class
-
-pub record IsStoredHostClass (it : HostClass) : Type 0 where
-  pub host : IsName it.host
-  pub class : IsClass it.class

@@ -62,6 +62,6 @@ pub record ShowsClasses (db : Trees) (trees : ProjectTrees) (rows : ClassRows) :
   pub workunits : rows.workunits.items ≡ map (keyed 2) (db trees.workunit_class)
 
 -- The rows that are shown of the tables of this version; before version 3 there are no tables of classes.
-pub record Shows (version : ℕ) (db : Trees) (trees : ProjectTrees) (rows : TableRows) : Type 0 where
+pub record ShowsTables (version : ℕ) (db : Trees) (trees : ProjectTrees) (rows : TableRows) : Type 0 where
   pub plain : ShowsPlain db trees rows.plain
   pub classes : MatchOption rows.classes (¬ IsClassedVersion version) (λ classes. IsClassedVersion version × ShowsClasses db trees classes)

@@ -8,10 +8,11 @@ use Rattle.wu_core.specs.declared.workunit.Grant.{Grant}
 use Rattle.wu_schema.specs.Tables.{ProjectTrees}
 use Rattle.wu_loader.specs.Granting.{by_name, IsUngranted, Rise}
 use Rattle.wu_loader.specs.Questions.{ShowsTable}
-use Rattle.wu_loader.specs.Rows.{grant_row, host_row, IsStoredHost}
+use Rattle.wu_loader.specs.Rows.{grant_row}
+use Rattle.wu_schema.specs.Reading.{host_row, IsStoredHost}
 use Rattle.wu_loader.specs.Whole.{rows_of, AreSorted}
 use Rattle.wu_loader.specs.declared.finding.LoadedTable.TheVariants as table
-use Rattle.wu_loader.specs.declared.rows.Host.{Host}
+use Rattle.wu_schema.specs.declared.rows.HostSum.{HostSum}
 use Rattle.wu_loader.specs.declared.totals.OtherSums as told
 
 -- These are the sums of the host's grants, and its row has others.
@@ -25,7 +26,7 @@ pub record HasOtherSums (grants : List Grant) (sums : told.OtherSums) : Type 0 w
 pub record IsFirstOfOtherSums (given rows : List Row) (place : ℕ) (sums : told.OtherSums) : Type 0 where
   pub grants : List Grant
   pub rows_are : given ≡ rows_of grant_row grants
-  pub hosts : List Host
+  pub hosts : List HostSum
   pub read : AreSorted host_row IsStoredHost by_name rows hosts
   pub counted : 1 ≤ place
   pub rise : Rise hosts

@@ -1,5 +1,6 @@
 -- When the shown rows are those of a world, and which worlds have values that rows may have.
 use Rattle.std.specs.Prelude.{◌≡◌, ◌<◌, ℕ, List, [], ◌∷◌, map, All, MatchOption, Option}
+use Rattle.wu_store.specs.Loading.{classless}
 use Rattle.std.specs.List.{flat_map}
 use Rattle.std.specs.List.Sorted.{IsPermutation}
 use Rattle.sqlite.specs.Order.{Row}
@@ -9,9 +10,10 @@ use Rattle.wu_core.specs.Hosts.{hosts_of}
 use Rattle.wu_core.specs.Storable.{AreStorable, AreVerdicts, IsArchiveStorable, IsName}
 use Rattle.wu_core.specs.World.{MayBeKept, World}
 use Rattle.wu_core.specs.declared.workunit.Workunit.{Workunit}
-use Rattle.wu_schema.specs.Refines.{IsClassless, host_of, instances_of}
+use Rattle.wu_schema.specs.Refines.{LacksClasses, host_of, instances_of}
 use Rattle.wu_schema.specs.Stored.{class_cells, import_cells, workunit_row}
-use Rattle.wu_loader.specs.Rows.{archived_row, classed_of, classed_row, grant_row, project_row, IsStoredGrant, IsStoredHostClass, IsStoredProject}
+use Rattle.wu_loader.specs.Rows.{archived_row, classed_of, classed_row, grant_row, project_row, IsStoredGrant, IsStoredProject}
+use Rattle.wu_schema.specs.Reading.{IsStoredHostClass}
 use Rattle.wu_loader.specs.Whole.{rows_of}
 use Rattle.wu_loader.specs.declared.rows.ProjectRow.{ProjectRow}
 use Rattle.wu_loader.specs.declared.tables.ClassRows.{ClassRows}
@@ -19,7 +21,6 @@ use Rattle.wu_loader.specs.declared.tables.PlainRows.{PlainRows}
 use Rattle.wu_loader.specs.declared.tables.TableRows.{TableRows}
 use Rattle.wu_loader.specs.declared.world.Plain.{Plain}
 use Rattle.wu_loader.specs.declared.world.WithClasses.{WithClasses}
-use Rattle.wu_loader.specs.Classing.{unclassed}
 
 abbrev pub project_of : World → ProjectRow
 project_of world = record { version = world.version; next_number = world.next_number }
@@ -46,7 +47,7 @@ pub record AreClassRowsOf (rows : ClassRows) (world : World) : Type 0 where
 
 -- The rows of the tables of classes are what the world holds; without these tables it has no classes.
 abbrev pub AreAnyClassRowsOf : Option ClassRows → World → Type 0
-AreAnyClassRowsOf rows world = MatchOption rows (IsClassless world) (λ classes. AreClassRowsOf classes world)
+AreAnyClassRowsOf rows world = MatchOption rows (LacksClasses world) (λ classes. AreClassRowsOf classes world)
 
 -- The rows are what the world holds, and it is of this version.
 pub record AreRowsOf (told : ℕ) (rows : TableRows) (world : World) : Type 0 where
@@ -83,6 +84,6 @@ plain_world plain = record {
 
 -- These are the workunits with their classes, and the hosts with theirs, as the rows give them.
 pub record HasClassesOf (workunits : List Workunit) (rows : Option ClassRows) (found : WithClasses) : Type 0 where
-  pub same : map unclassed found.workunits.items ≡ map unclassed workunits
+  pub same : map classless found.workunits.items ≡ map classless workunits
   pub classes : (world : World) → world.workunits ≡ found.workunits.items → world.classes ≡ found.hosts.items → AreAnyClassRowsOf rows world
   pub in_order : AreInOrder found.hosts.items

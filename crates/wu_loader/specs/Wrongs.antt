@@ -11,13 +11,14 @@ use Rattle.wu_schema.specs.Stored.{class_cells, import_cells, workunit_row}
 use Rattle.wu_loader.specs.Classing.{by_host}
 use Rattle.wu_loader.specs.Dealing.{by_place, AreDealt}
 use Rattle.wu_loader.specs.Granting.{by_name, IsWrongHost}
-use Rattle.wu_loader.specs.Rows.{archived_row, classed_row, grant_row, host_row, placed_row, project_row, IsStoredClass, IsStoredGrant, IsStoredHost, IsStoredHostClass, IsStoredImport, IsStoredPlaced, IsStoredProject}
+use Rattle.wu_loader.specs.Rows.{archived_row, classed_row, grant_row, placed_row, project_row, IsStoredClass, IsStoredGrant, IsStoredImport, IsStoredPlaced, IsStoredProject}
+use Rattle.wu_schema.specs.Reading.{host_row, IsStoredHost, IsStoredHostClass}
 use Rattle.wu_loader.specs.Whole.{rows_of, AreOfValues, AreSorted, DiffersAt, IsIn, IsNoRow, IsNotAbove}
 use Rattle.wu_loader.specs.Worlds.{IsOrdered}
 use Rattle.wu_loader.specs.declared.finding.LoadedTable.{LoadedTable}
 use Rattle.wu_loader.specs.declared.finding.LoadedTable.TheVariants as table
 use Rattle.wu_loader.specs.declared.finding.WrongRow as told
-use Rattle.wu_loader.specs.declared.rows.Host.{Host}
+use Rattle.wu_schema.specs.declared.rows.HostSum.{HostSum}
 use Rattle.wu_loader.specs.declared.rows.Placed.{Placed}
 use Rattle.wu_loader.specs.declared.rows.ProjectRow.{ProjectRow}
 use Rattle.wu_loader.specs.declared.tables.ClassRows.{ClassRows}
@@ -84,7 +85,7 @@ IsWrongWork works rows wrong = IsIn table.Workunit (IsNoRow (λ _. workunit_row)
 -- In order of name, these are not the hosts of the grants: first for the row at this place, or because one is missing
 -- after the last.
 pub record IsOtherHost (grants : List Grant) (rows : List Row) (place : ℕ) : Type 0 where
-  pub hosts : List Host
+  pub hosts : List HostSum
   pub read : AreSorted host_row IsStoredHost by_name rows hosts
   pub counted : 1 ≤ place
   pub wrong : IsWrongHost grants hosts (place - 1)

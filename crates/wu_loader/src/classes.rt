@@ -1,13 +1,14 @@
 //! The classes of workunits and of hosts.
 
 ghost use Rattle.std.specs.Prelude.{◌≡◌, ◌↔◌, ◌<◌, All, IfErr, IfOk, IfSome, IsTrue, List, MatchOption, OnOk, length, map};
+ghost use Rattle.wu_store.specs.Loading.{classless};
 ghost use Rattle.std.specs.List.Sorted.{IsPermutation, IsSorted};
 ghost use Rattle.std.specs.declared.cmp.Ordering.TheVariants.{Less};
 ghost use Rattle.wu_core.specs.Classes.{AreInOrder};
 ghost use Rattle.wu_core.specs.declared.workunit.HostClass.{HostClass};
 ghost use Rattle.wu_schema.specs.Stored.{class_cells};
-ghost use Rattle.wu_loader.specs.Classing.{by_host, numbers, numbers_classed, unclassed, AreClassedBy, AreOfOthers, AreRising};
-ghost use Rattle.wu_loader.specs.Rows.{IsStoredHostClass};
+ghost use Rattle.wu_schema.specs.Reading.{IsStoredHostClass};
+ghost use Rattle.wu_loader.specs.Classing.{by_host, numbers, numbers_classed, AreClassedBy, AreOfOthers, AreRising};
 ghost use Rattle.wu_loader.specs.Whole.{DiffersAt, IsIn, IsNotAbove, UnlessMemory};
 ghost use Rattle.wu_loader.specs.Wrongs.{IsWrongHostClass};
 
@@ -24,7 +25,7 @@ pub(crate) fn without_classes(
     workunits: Vec<Workunit>,
 ) -> Result<Vec<Workunit>, AllocError>
     // After `Ok` these are the workunits, each with class 0.
-    ensures { IfOk result (λ unbound. unbound.items ≡ map unclassed workunits.items) }
+    ensures { IfOk result (λ unbound. unbound.items ≡ map classless workunits.items) }
 {
     let mut unbound = Vec::new(alloc);
     for mut workunit in workunits {

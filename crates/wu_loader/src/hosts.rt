@@ -11,14 +11,14 @@ ghost use Rattle.wu_loader.specs.Whole.{IsIn, IsNotAbove, UnlessMemory};
 ghost use Rattle.wu_loader.specs.Wrongs.{IsWrongHostRow};
 
 use crate::finding::{LoadedTable, NoWorld, WrongRow};
-use crate::rows::Host;
 use crate::whole::all_from;
 use sqlite::Row;
 use std::alloc::{AllocError, Global};
 use wu_core::{Grant, Name};
+use wu_schema::rows::HostSum;
 
 /// Sorts the hosts by their names.
-pub(crate) fn sort(hosts: &mut Vec<Host>) -> Result<(), AllocError>
+pub(crate) fn sort(hosts: &mut Vec<HostSum>) -> Result<(), AllocError>
     ensures same { IsPermutation hosts.old.items hosts.new.items }
     ensures sorted { OnOk result (IsSorted by_name hosts.new.items) }
 {
@@ -26,7 +26,7 @@ pub(crate) fn sort(hosts: &mut Vec<Host>) -> Result<(), AllocError>
 }
 
 /// Returns whether the name of the one is below that of the other.
-fn is_below(one: &Host, other: &Host) -> bool
+fn is_below(one: &HostSum, other: &HostSum) -> bool
     ensures { IsTrue result ↔ (by_name one.now other.now ≡ Less) }
 {
     one.name.as_str().cmp(other.name.as_str()).is_lt()
@@ -78,14 +78,14 @@ fn is_credit(total: u64, grants: &[&Grant]) -> bool
 }
 
 /// Returns whether the host has grants, and as many as these.
-fn is_counted(host: &Host, grants: &[&Grant]) -> bool
+fn is_counted(host: &HostSum, grants: &[&Grant]) -> bool
     ensures { IsTrue result ↔ ((0 < host.now.grants) × (host.now.grants ≡ length grants.now)) }
 {
     host.grants > 0 && host.grants == grants.len() as u64
 }
 
 /// Returns whether the host has grants, and its sums are theirs.
-fn is_granted(host: &Host, grants: &[&Grant]) -> bool
+fn is_granted(host: &HostSum, grants: &[&Grant]) -> bool
     // It is true exactly where the host has grants, and its total and count are theirs.
     requires { IsSorted by_host grants.now }
     ensures { IsTrue result ↔ IsGranted (referred grants.now) host.now }
@@ -95,7 +95,7 @@ fn is_granted(host: &Host, grants: &[&Grant]) -> bool
 }
 
 /// Returns the first host whose name is not above that of the one before it, or `None` if there is none.
-pub(crate) fn first_out_of_order(hosts: &[Host]) -> Option<usize>
+pub(crate) fn first_out_of_order(hosts: &[HostSum]) -> Option<usize>
     ensures order { MatchOption result (Rise hosts.now) (λ _. ¬ Rise hosts.now) }
     ensures within { IfSome result (λ place. place < length hosts.now) }
     ensures told { IfSome result (IsNotAbove by_name hosts.now) }
@@ -109,7 +109,7 @@ pub(crate) fn first_out_of_order(hosts: &[Host]) -> Option<usize>
 }
 
 /// Returns the first host that has not what it was granted, or `None` if there is none.
-pub(crate) fn first_ungranted(hosts: &[Host], grants: &[&Grant]) -> Option<usize>
+pub(crate) fn first_ungranted(hosts: &[HostSum], grants: &[&Grant]) -> Option<usize>
     requires { IsSorted by_host grants.now }
     ensures granted { MatchOption result (All (IsGranted (referred grants.now)) hosts.now)
         (λ _. ¬ All (IsGranted (referred grants.now)) hosts.now) }
@@ -125,7 +125,7 @@ pub(crate) fn first_ungranted(hosts: &[Host], grants: &[&Grant]) -> Option<usize
 }
 
 /// Returns whether one of the hosts, which are in order, has the name.
-fn is_listed(hosts: &[Host], name: &Name) -> bool
+fn is_listed(hosts: &[HostSum], name: &Name) -> bool
     requires { Rise hosts.now }
     ensures { IsTrue result ↔ IsListed hosts.now name.now }
 {
@@ -135,7 +135,7 @@ fn is_listed(hosts: &[Host], name: &Name) -> bool
 }
 
 /// Returns whether the host of each grant is among these, which are in order.
-fn are_listed(hosts: &[Host], grants: &[&Grant]) -> bool
+fn are_listed(hosts: &[HostSum], grants: &[&Grant]) -> bool
     requires { Rise hosts.now }
     ensures { IsTrue result ↔ All (λ grant. IsListed hosts.now grant.host) (referred grants.now) }
 {
@@ -149,7 +149,7 @@ fn are_listed(hosts: &[Host], grants: &[&Grant]) -> bool
 
 /// Returns the first of these hosts that keeps them from being those of the grants, or the place after them if one is
 /// missing. Returns `None` if they are.
-fn first_wrong_host(hosts: &[Host], grants: &[&Grant]) -> Option<usize>
+fn first_wrong_host(hosts: &[HostSum], grants: &[&Grant]) -> Option<usize>
     requires { IsSorted by_host grants.now }
     // `None` means that these are the hosts of the grants, each once and in order, with their
     // totals and counts.
@@ -190,7 +190,7 @@ pub(crate) fn know_hosts(alloc: Global, rows: &[Row], grants: &[Grant]) -> Resul
     ensures told { IfErr result (λ reason. UnlessMemory reason (IsIn LoadedTable.Host
         (IsWrongHostRow grants.now rows.now))) }
 {
-    let mut hosts = all_from::<Host>(alloc, LoadedTable::Host, rows)?;
+    let mut hosts = all_from::<HostSum>(alloc, LoadedTable::Host, rows)?;
     sort(&mut hosts)?;
     let sorted = grants_by_host(alloc, grants)?;
     match first_wrong_host(&hosts, &sorted) {

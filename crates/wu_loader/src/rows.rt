@@ -1,26 +1,21 @@
 //! Rows of the tables as values.
 
-ghost use Rattle.std.specs.Prelude.{◌≡◌, ◌≤◌, ⊤, ℕ, length};
+ghost use Rattle.std.specs.Prelude.{ℕ};
 ghost use Rattle.sqlite.specs.Order.{Row};
-ghost use Rattle.wu_core.specs.Storable.{IsStoredArchived, IsStoredWorkunit, MayBeInstance};
+ghost use Rattle.wu_core.specs.Storable.{IsStoredArchived, IsStoredWorkunit};
 ghost use Rattle.wu_schema.specs.Restoring.{Restores};
-ghost use Rattle.wu_schema.specs.Stored.{class_cells, import_cells, instance_row, number, workunit_row};
-ghost use Rattle.wu_schema.specs.Reading.{columns};
-ghost use Rattle.wu_loader.specs.Cells.{moment_cells, state_cells, HasMoments};
-ghost use Rattle.wu_loader.specs.Rows.{archived_row, classed_row, grant_row, host_row, placed_row, project_row, IsStoredClass, IsStoredGrant, IsStoredHost, IsStoredHostClass, IsStoredImport, IsStoredPlaced, IsStoredProject};
+ghost use Rattle.wu_schema.specs.Stored.{class_cells, import_cells, workunit_row};
+ghost use Rattle.wu_schema.specs.Reading.{host_row, IsStoredHost, IsStoredHostClass};
+ghost use Rattle.wu_loader.specs.Rows.{archived_row, classed_row, grant_row, placed_row, project_row, IsStoredClass, IsStoredGrant, IsStoredImport, IsStoredPlaced, IsStoredProject};
 
 use sqlite::Row;
 use std::alloc::Global;
 use wu_audit::Imported;
-use wu_core::{
-    Archived, Deadline, Fault, FileDelete, Grant, HostClass, Instance, MOST_WORKUNITS, Moment,
-    Name, Outcome, ServerState, ValidateState, Workunit,
-};
+use wu_core::{Archived, Fault, Grant, HostClass, Instance, MOST_WORKUNITS, Workunit};
 use wu_schema::number_at;
 use wu_schema::rows::{
-    bytes_at, class_at, deadline_at, file_delete_at, host_at, instance_number_at, is_formed,
-    kind_at, moment_at, name_at, outcome_at, output_at, placed_archived_from, server_state_at,
-    validate_state_at, verdicts_at, workunit_from,
+    HostSum, bytes_at, class_at, host_class_from, host_from, instance_at, instance_number_at,
+    kind_at, name_at, placed_archived_from, verdicts_at, workunit_from,
 };
 
 /// What a row of a table represents.
@@ -109,31 +104,13 @@ impl FromRow for Archived {
     }
 }
 
-/// What a host was granted.
-#[derive(Drop)]
-pub struct Host {
-    pub name: Name,
-    pub total: u64,
-    pub grants: u64,
-}
-
-impl FromRow for Host {
+impl FromRow for HostSum {
     ghost cells = { λ _. host_row };
 
     ghost is_value = { IsStoredHost };
 
     fn from_row(alloc: Global, place: u64, row: &Row) -> Result<Self, Fault> {
-        if row.column_count() != 3 {
-            return Err(Fault::NotAProject);
-        }
-        let total = number_at(row, 1)?;
-        let grants = number_at(row, 2)?;
-        let name = name_at(alloc, row, 0)?;
-        Ok(Host {
-            name,
-            total,
-            grants,
-        })
+        host_from(alloc, row)
     }
 }
 
@@ -200,76 +177,8 @@ impl FromRow for HostClass {
     ghost is_value = { IsStoredHostClass };
 
     fn from_row(alloc: Global, place: u64, row: &Row) -> Result<Self, Fault> {
-        if row.column_count() != 2 {
-            return Err(Fault::NotAProject);
-        }
-        let class = class_at(row, 1)?;
-        let host = name_at(alloc, row, 0)?;
-        Ok(HostClass { host, class })
+        host_class_from(alloc, row)
     }
-}
-
-/// The states of an instance.
-#[derive(Clone, Copy)]
-struct PlacedStates {
-    server_state: ServerState,
-    outcome: Outcome,
-    validate_state: ValidateState,
-    file_delete: FileDelete,
-}
-
-/// When an instance was sent, is due and was reported.
-#[derive(Clone, Copy)]
-struct PlacedMoments {
-    sent_at: Option<Moment>,
-    deadline: Option<Deadline>,
-    received_at: Option<Moment>,
-}
-
-/// Reads the states in the four columns from the third on.
-fn states_from(row: &Row) -> Result<PlacedStates, Fault>
-    ensures { Restores state_cells (λ _. ⊤) (columns row.now 2 4) result }
-{
-    Ok(PlacedStates {
-        server_state: server_state_at(row, 2)?,
-        outcome: outcome_at(row, 3)?,
-        validate_state: validate_state_at(row, 4)?,
-        file_delete: file_delete_at(row, 5)?,
-    })
-}
-
-/// Reads the moments in the three columns from the eighth on.
-fn moments_from(row: &Row) -> Result<PlacedMoments, Fault>
-    requires { 11 ≤ length row.now }
-    ensures { Restores moment_cells HasMoments (columns row.now 7 3) result }
-{
-    Ok(PlacedMoments {
-        sent_at: moment_at(row, 7)?,
-        deadline: deadline_at(row, 8)?,
-        received_at: moment_at(row, 9)?,
-    })
-}
-
-/// Reads the instance in the nine columns from the third on, well formed or not.
-fn instance_from(alloc: Global, row: &Row) -> Result<Instance, Fault>
-    requires { length row.now ≡ 11 }
-    ensures { Restores instance_row MayBeInstance (columns row.now 2 9) result }
-{
-    let states = states_from(row)?;
-    let moments = moments_from(row)?;
-    let output = output_at(row, 10)?;
-    let host = host_at(alloc, row, 6)?;
-    Ok(Instance {
-        server_state: states.server_state,
-        outcome: states.outcome,
-        validate_state: states.validate_state,
-        file_delete: states.file_delete,
-        host,
-        sent_at: moments.sent_at,
-        deadline: moments.deadline,
-        received_at: moments.received_at,
-        output,
-    })
 }
 
 /// An instance, with the number of its workunit and its own.
@@ -291,15 +200,11 @@ impl FromRow for Placed {
         }
         let workunit = number_at(row, 0)?;
         let n = number_at(row, 1)?;
-        let instance = instance_from(alloc, row)?;
-        if is_formed(&instance) {
-            Ok(Placed {
-                workunit,
-                n,
-                instance,
-            })
-        } else {
-            Err(Fault::NotAProject)
-        }
+        let instance = instance_at(alloc, row, 2)?;
+        Ok(Placed {
+            workunit,
+            n,
+            instance,
+        })
     }
 }

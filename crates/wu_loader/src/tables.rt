@@ -2,9 +2,9 @@
 
 ghost use Rattle.std.specs.Prelude.{◌≡◌, ℕ};
 ghost use Rattle.wu_schema.specs.Tables.{IsClassedVersion};
-ghost use Rattle.wu_loader.specs.Asked.{Looks};
+ghost use Rattle.wu_loader.specs.Asked.{LooksAtTables};
 ghost use Rattle.wu_loader.specs.Questions.{IsTableIn, question, ShowsTable};
-ghost use Rattle.wu_loader.specs.Shown.{Shows, ShowsClasses, ShowsPlain};
+ghost use Rattle.wu_loader.specs.Shown.{ShowsTables, ShowsClasses, ShowsPlain};
 
 use crate::finding::LoadedTable;
 use crate::texts::{
@@ -67,8 +67,9 @@ pub(crate) fn rows_of<S: Alter>(
 ) -> Result<Vec<Row>, Fault>
     // Only reads; over tables of a version that has this table, these are all its rows, as the
     // question shows them.
-    ensures { (version : ℕ) → IsTableIn version table → Looks version S.Store conn.old conn.new
-        result (λ db trees rows. ShowsTable table db.trees trees rows.items) }
+    ensures { (version : ℕ) → IsTableIn version table
+        → LooksAtTables version S.Store conn.old conn.new result
+        (λ db trees rows. ShowsTable table db.trees trees rows.items) }
 {
     query(conn, question(table), &[])
 }
@@ -77,7 +78,7 @@ pub(crate) fn rows_of<S: Alter>(
 fn plain_rows<S: Alter>(conn: &mut Connection<S>) -> Result<PlainRows, Fault>
     // Only reads; over tables of any version, these are all rows of the tables that every version
     // has.
-    ensures { (version : ℕ) → Looks version S.Store conn.old conn.new result
+    ensures { (version : ℕ) → LooksAtTables version S.Store conn.old conn.new result
         (λ db trees rows. ShowsPlain db.trees trees rows) }
 {
     Ok(PlainRows {
@@ -95,8 +96,9 @@ fn plain_rows<S: Alter>(conn: &mut Connection<S>) -> Result<PlainRows, Fault>
 fn class_rows<S: Alter>(conn: &mut Connection<S>) -> Result<ClassRows, Fault>
     // Only reads; over tables of a version with classes, these are all rows of the tables of
     // classes.
-    ensures { (version : ℕ) → IsClassedVersion version → Looks version S.Store conn.old conn.new
-        result (λ db trees rows. ShowsClasses db.trees trees rows) }
+    ensures { (version : ℕ) → IsClassedVersion version
+        → LooksAtTables version S.Store conn.old conn.new result
+        (λ db trees rows. ShowsClasses db.trees trees rows) }
 {
     Ok(ClassRows {
         hosts: rows_of(conn, LoadedTable::HostClass)?,
@@ -109,8 +111,8 @@ pub fn table_rows<S: Alter>(conn: &mut Connection<S>, version: u64) -> Result<Ta
     // Only reads; over tables of this version in rowid order, these are all rows of each table, as
     // its question shows them. With no limit on steps its only faults over them are `Memory` and
     // `Broken`.
-    ensures { Looks version S.Store conn.old conn.new result
-        (λ db trees rows. Shows version db.trees trees rows) }
+    ensures { LooksAtTables version S.Store conn.old conn.new result
+        (λ db trees rows. ShowsTables version db.trees trees rows) }
 {
     let plain = plain_rows(conn)?;
     if version < CLASS_VERSION {

@@ -2,24 +2,24 @@
 
 ghost use Rattle.std.specs.Prelude.{◌≡◌, ◌<◌, ℕ, IfOk, IfSome, Some, length, slice_get, sum_by};
 ghost use Rattle.std.specs.List.Sorted.{IsSorted};
-ghost use Rattle.wu_loader.specs.Asked.{Looks};
+ghost use Rattle.wu_loader.specs.Asked.{LooksAtTables};
 ghost use Rattle.wu_loader.specs.Granting.{by_host, referred};
 ghost use Rattle.wu_loader.specs.Totals.{HasOtherSums, IsFirstOfOtherSums, ShowsOtherSums};
 
 use crate::finding::{LoadedTable, NoWorld};
 use crate::hosts::{first_out_of_order, first_ungranted, grants_by_host, run_of, sort};
-use crate::rows::Host;
 use crate::tables::rows_of;
 use crate::whole::all_from;
 use sqlite::{Alter, Connection, Row};
 use std::alloc::Global;
 use wu_core::{Fault, Grant};
+use wu_schema::rows::HostSum;
 
 /// A host whose row has other sums than its grants.
 #[derive(Drop)]
 pub struct OtherSums {
     /// The host, with the sums of its row.
-    pub kept: Host,
+    pub kept: HostSum,
     /// The credit of its grants.
     pub credit: u64,
     /// The number of its grants.
@@ -38,7 +38,7 @@ fn credit_of(grants: &[&Grant]) -> Option<u64>
 }
 
 /// Returns the host at this place with both sums, or `None` if they are the same.
-fn sums_at(hosts: Vec<Host>, place: usize, grants: &[&Grant]) -> Option<OtherSums>
+fn sums_at(hosts: Vec<HostSum>, place: usize, grants: &[&Grant]) -> Option<OtherSums>
     requires sorted { IsSorted by_host grants.now }
     requires within { place < length hosts.items }
     ensures there { IfSome result (λ sums. slice_get hosts.items place ≡ Some sums.kept) }
@@ -66,7 +66,7 @@ fn sums_from(alloc: Global, hosts: &[Row], grants: &[Row]) -> Result<Option<Othe
         × IsFirstOfOtherSums grants.now hosts.now place sums)) }
 {
     let grants = all_from::<Grant>(alloc, LoadedTable::CreditGrant, grants)?;
-    let mut hosts = all_from::<Host>(alloc, LoadedTable::Host, hosts)?;
+    let mut hosts = all_from::<HostSum>(alloc, LoadedTable::Host, hosts)?;
     sort(&mut hosts)?;
     let sorted = grants_by_host(alloc, &grants)?;
     let None = first_out_of_order(&hosts) else {
@@ -86,7 +86,7 @@ pub fn other_sums<S: Alter>(
 ) -> Result<Option<OtherSums>, Fault>
     // Only reads; over tables of any version in rowid order, the host is the first, by name, that
     // has not the sums of its grants, and these are both.
-    ensures { (version : ℕ) → Looks version S.Store conn.old conn.new result
+    ensures { (version : ℕ) → LooksAtTables version S.Store conn.old conn.new result
         (λ db trees found. IfSome found (ShowsOtherSums db.trees trees)) }
 {
     let hosts = rows_of(conn, LoadedTable::Host)?;

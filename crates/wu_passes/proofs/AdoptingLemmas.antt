@@ -11,7 +11,7 @@ use Rattle.wu_core.specs.declared.fault.Fault.TheVariants.{Broken, NewSchema, No
 use Rattle.wu_core.specs.World.{World, empty_world}
 use Rattle.wu_schema.proofs.CallLemmas.{back_none, back_unchanged}
 use Rattle.wu_schema.proofs.VersionLemmas.{has_understood, project_of, project_row}
-use Rattle.wu_schema.specs.Calls.{IsBack, IsDone, IsMade, IsRefused, IsUndone, LeavesOnly}
+use Rattle.wu_schema.specs.Calls.{BreaksBetween, IsBack, IsDone, IsMade, IsRefused, IsUndone, LeavesOnly}
 use Rattle.wu_schema.specs.Faults.{IsFailure}
 use Rattle.wu_schema.specs.Fresh.{IsTakenFault, MakesProject}
 use Rattle.wu_schema.specs.Refines.{Refines}
@@ -23,9 +23,9 @@ use Rattle.wu_store.specs.Loading.{IsStoreFault}
 use Rattle.wu_store.specs.StandsFor.{StandsFor}
 use Rattle.wu_store.proofs.SameWorld.{one_world}
 use Rattle.wu_passes.specs.Standing.{GoesOn, HasEnded, ShowsWorld, TellsLater}
-use Rattle.wu_passes.specs.Adopting.{Adopts, BreaksBetween, FindsProject, IsAdoptionFault, IsKnownRow, IsRefusalOf, IsVacant, KeepsAll, KnowsVersion, LeavesFresh, LeavesNoMore, older_than_present, RefusesAdoption, RefusesRow, TellsNew}
+use Rattle.wu_passes.specs.Adopting.{Adopts, BeginsFrom, FindsProject, IsAdoptionFault, IsKnownRow, IsRefusalOf, IsVacant, KeepsAll, KnowsVersion, LeavesFresh, LeavesNoMore, older_than_present, RefusesAdoption, RefusesRow, TellsNew}
 use Rattle.wu_passes.specs.declared.project.Project.{Project}
-use Rattle.wu_passes.specs.Projects.{connection_of, FailsAgain, GoesOnAgain, state_of}
+use Rattle.wu_passes.specs.Projects.{BeginsSession, connection_of, FailsAgain, GoesOnAgain, IsOver, state_of}
 use Rattle.wu_passes.proofs.StandingLemmas.{goes_read}
 
 -- ---- a connection whose limit on steps was taken off shows what it showed
@@ -450,6 +450,15 @@ module _ (old new : State) (version : ℕ) (adopts : Adopts old new) (knows : Kn
         ]))
       ]
 
+-- a session begins over the world of the tables, or over the empty one
+module _ {S : Type 0} (g : Ghosts S) (conn : Held S) (new : Project S g) (begins : BeginsSession g conn new) (clean : HasCleanDisk (state_of new)) (world : World) (project : IsProject world) where
+  goes_from : BeginsFrom (state g conn) world → GoesOn (state_of new) world
+  goes_from (inl goes) = (begins.adopts.goes clean world project.first goes).0
+  goes_from (inr (vacant, is)) = subst (λ w. GoesOn (state_of new) w) (sym is) (begins.adopts.fresh clean vacant).goes
+
+  pub begins_over : BeginsFrom (state g conn) world → IsOver new world
+  begins_over begun = let goes = goes_from begun in record { is_project = project; version = begins.knows clean world goes.stands; goes = goes }
+
 -- ---- a new session over the connection of one that a fault ended
 
 pub adopts_again : (old new : State) (world : World) (cut : Request) → Adopts old new → HasCleanDisk new → IsTrue old.is_open → IsProject world → HasEnded old world cut → GoesOn new world
@@ -462,9 +471,9 @@ refuses_again old new fault world cut refuses clean idle is_open project ended =
     let stands = (goes.stands is_open).0.refines in
     ((refuses.given clean).goes world goes, known_refused old new fault clean refuses idle (project_of old.now world stands) world.version (version_stands old.now world stands project.first) project.known)
 
-pub goes_again : {S : Type 0} {g : Ghosts S} (old : Project S g) (r : Result (Project S g) (Held S × Fault)) → IfOk r (λ new. Adopts (state_of old) (state_of new)) → IfOk r (GoesOnAgain old)
-goes_again old (Ok new) adopts = λ clean is_open world cut project ended. adopts_again (state_of old) (state_of new) world cut adopts clean is_open project ended
-goes_again old (Err refusal) adopts = tt
+pub goes_again : {S : Type 0} {g : Ghosts S} (old : Project S g) (r : Result (Project S g) (Held S × Fault)) → IfOk r (BeginsSession g (connection_of old)) → IfOk r (GoesOnAgain old)
+goes_again old (Ok new) begins = λ clean is_open world cut project ended. adopts_again (state_of old) (state_of new) world cut begins.adopts clean is_open project ended
+goes_again old (Err refusal) begins = tt
 
 pub fails_again : {S : Type 0} {g : Ghosts S} (old : Project S g) (r : Result (Project S g) (Held S × Fault)) → (connection_of old).in_transaction ≡ false
     → IfErr r (λ refusal. RefusesAdoption (state_of old) (state g refusal.0) refusal.1) → IfErr r (FailsAgain old)

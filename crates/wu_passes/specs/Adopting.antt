@@ -1,13 +1,12 @@
 -- The adoption of a connection: what a session that begins has found or made, and what a refusal reports and leaves.
 use Rattle.std.specs.Prelude.{◌≡◌, ◌⊎◌, ◌<◌, ◌≤◌, ℕ, nat_lt, Bool, true, false, if◌then◌else◌, IsTrue, None, Option, Some}
-use Rattle.sqlite_disk.specs.Disk.{MoreFaults}
 use Rattle.sqlite.specs.Effect.{Database}
 use Rattle.sqlite.specs.State.{State, HasCleanDisk}
 use Rattle.sqlite.specs.Tree.{Trees}
 use Rattle.wu_core.specs.declared.fault.Fault.{Fault}
 use Rattle.wu_core.specs.declared.fault.Fault.TheVariants.{Broken, NewSchema, NotAProject}
 use Rattle.wu_core.specs.World.{World, empty_world}
-use Rattle.wu_schema.specs.Calls.{IsBack}
+use Rattle.wu_schema.specs.Calls.{BreaksBetween, IsBack}
 use Rattle.wu_schema.specs.Faults.{IsFailure}
 use Rattle.wu_schema.specs.Fresh.{IsTakenFault, MakesProject}
 use Rattle.wu_schema.specs.Versions.{HasProject, HasVersion, LacksProject}
@@ -19,6 +18,10 @@ use Rattle.wu_passes.specs.Standing.{GoesOn, FaultsOnlyGrow, ShowsWorld, TellsLa
 -- There is no project: nothing has the name of its table, or what has the name lacks a column.
 abbrev pub IsVacant : State → Type 0
 IsVacant s = LacksProject s.now.schema
+
+-- The world that a session begins from: the one that the tables represent, or the empty one if there is no project.
+abbrev pub BeginsFrom : State → World → Type 0
+BeginsFrom s world = GoesOn s world ⊎ (IsVacant s × (world ≡ empty_world))
 
 -- The one row of the project has a version that this program knows.
 abbrev pub IsKnown : (db : Database) → HasProject db.schema → Type 0
@@ -123,10 +126,6 @@ pub record RefusesRow (limit : Option ℕ) (db : Database) (fault : Fault) : Typ
   -- Over the one row of a project, without a limit on steps, the fault refuses its version as later, or is `Memory` or
   -- `Broken`.
   pub only : limit ≡ None → (has : HasProject db.schema) (version : ℕ) → HasVersion db has version → IsRefusalOf version fault
-
--- The disk failed between the two states, or the connection was not open.
-abbrev pub BreaksBetween : State → State → Type 0
-BreaksBetween old new = MoreFaults old.faults new.faults ⊎ (old.is_open ≡ false)
 
 -- Why the adoption was refused.
 pub record TellsCause (old new : State) (fault : Fault) : Type 0 where

@@ -24,9 +24,9 @@ use Rattle.wu_store.specs.StandsFor.{StandsFor}
 use Rattle.wu_views.specs.Summaries.{CountsSummary, SumsSummary}
 use Rattle.wu_views.specs.declared.lines.Summary.{Summary}
 use Rattle.wu_machine.specs.Requests.{Request}
-use Rattle.wu_passes.specs.Adopting.{KeepsAll, older_than_present}
+use Rattle.wu_passes.specs.Adopting.{Adopts, KeepsAll, older_than_present, StartsOver, TellsNew}
 use Rattle.wu_passes.specs.Leaving.{RunsFrom}
-use Rattle.wu_passes.specs.Standing.{GoesOn, HasEnded, FaultsOnlyGrow, KeepsOpen, KeepsShut, MayEnd, Runs, ShowsWorld, FailureCause}
+use Rattle.wu_passes.specs.Standing.{GoesOn, HasEnded, FaultsOnlyGrow, KeepsOpen, KeepsShut, Runs, ShowsWorld, FailureCause}
 
 -- The connection that a release gives back.
 abbrev pub connection_of : {S : Type 0} {g : Ghosts S} → Project S g → Held S
@@ -108,7 +108,7 @@ StaysShut old new = KeepsShut (state_of old) (state_of new)
 -- What a call keeps of a session, whatever it answers.
 pub record KeepsSession {S T : Type 0} {g : Ghosts S} (old new : Project S g) (result : Result T Fault) : Type 0 where
   -- The session ends with `Broken`, and otherwise only with `Memory`.
-  pub ends : IsSessionOpen old → IsSessionEnded new → IsErrAnd result MayEnd
+  pub ends : IsSessionOpen old → IsSessionEnded new → IsErrAnd result IsFailure
   pub broken : IsSessionOpen old → result ≡ Err Broken → IsSessionEnded new
   -- A session that goes on is never reported as ended.
   pub never : IsSessionOpen old → NeverEnded result
@@ -158,6 +158,24 @@ pub record IsOver {S : Type 0} {g : Ghosts S} (project : Project S g) (world : W
 -- On a clean disk, the session is over the version of each world that its tables represent.
 abbrev pub KnowsTables : {S : Type 0} {g : Ghosts S} → Project S g → Type 0
 KnowsTables project = HasCleanDisk (state_of project) → (world : World) → ShowsWorld (state_of project) world → IsOfItsVersion project world
+
+-- The session begins over the project that is found in a database, or made there.
+pub record BeginsSession {S : Type 0} (g : Ghosts S) (conn : Held S) (project : Project S g) : Type 0 where
+  -- The connection was in no transaction.
+  pub idle : conn.in_transaction ≡ false
+  -- The session has not ended.
+  pub going : IsSessionOpen project
+  -- A project that was there is found, of a known version, and is not touched. If there was none, its tables are made
+  -- beside all else that is there, and represent the empty world. The session goes on over the world of which alone a
+  -- crash could leave the tables. The connection was open and still is, without a limit on steps. A crash leaves what it
+  -- could have left before, or the fresh project.
+  pub adopts : Adopts (state g conn) (state_of project)
+  -- If the project that is found has an older version, the session is over that version; otherwise it is over no older one.
+  pub version : StartsOver (state g conn) (state_of project) (older_version project)
+  -- Whatever world the tables represent, the session knows the version of it.
+  pub knows : KnowsTables project
+  -- The project is new if there was none before.
+  pub told : TellsNew (state g conn) (state_of project) (is_new project)
 
 -- On a clean disk, the command runs over each world over which the session goes on.
 abbrev pub RunsOn : {S : Type 0} {g : Ghosts S} → Project S g → Project S g → Command → Result Answer Fault → Type 0

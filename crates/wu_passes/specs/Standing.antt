@@ -11,6 +11,7 @@ use Rattle.wu_machine.specs.declared.command.Answer.{Answer}
 use Rattle.wu_passes.specs.Committing.{FoundAs}
 use Rattle.wu_machine.specs.Machine.{MakesNothing, present_version, reply, step}
 use Rattle.wu_machine.specs.Commands.{reply_of_answer}
+pub use Rattle.wu_schema.specs.Faults.{IsFailure}
 use Rattle.wu_store.specs.Loading.{IsStoreFault}
 use Rattle.wu_store.specs.StandsFor.{StandsFor}
 use Rattle.wu_machine.specs.Requests.{Reply, Request}
@@ -43,10 +44,6 @@ Runs world request has_ended new result =
     MatchResult result (λ answer. (reply world request ≡ Ok (reply_of_answer answer)) × (has_ended ≡ false) × GoesOn new (step world request))
     (λ fault. ((reply world request ≡ Err fault) ⊎ IsStoreFault fault) × RefinesAfterFault has_ended new world request)
 
--- The fault may end a session.
-abbrev pub MayEnd : Fault → Type 0
-MayEnd fault = (fault ≡ Memory) ⊎ (fault ≡ Broken)
-
 -- The machine answers the request.
 abbrev pub IsAnswered : World → Request → Type 0
 IsAnswered world request = (answer : Reply) × (reply world request ≡ Ok answer)
@@ -58,13 +55,13 @@ MakesSome world request = IsAnswered world request × ¬ MakesNothing world requ
 -- Why a command was not done. If the session ended: a read was `Broken`, or what the machine makes could not be
 -- written. Otherwise: the machine refuses it, the call was out of memory, or a statement that writes was refused.
 abbrev pub FailureCause : Type 0 → Bool → World → Request → Fault → Type 0
-FailureCause Broke true world request fault = ((fault ≡ Broken) × Broke) ⊎ (MayEnd fault × MakesSome world request)
+FailureCause Broke true world request fault = ((fault ≡ Broken) × Broke) ⊎ (IsFailure fault × MakesSome world request)
 FailureCause Broke false world request fault =
     (reply world request ≡ Err fault) ⊎ ((fault ≡ Memory) ⊎ ((fault ≡ NotAProject) × MakesSome world request))
 
 -- Within a transaction, only a refused statement does not end the session.
 abbrev pub IsCutBy : Bool → Fault → Type 0
-IsCutBy true fault = MayEnd fault
+IsCutBy true fault = IsFailure fault
 IsCutBy false fault = fault ≡ NotAProject
 
 -- A disk that is not clean stays so.

@@ -15,4 +15,4 @@ pub use project::Project;
 pub use upgrading::upgrade;
 pub use wu_machine::{Answer, Batch, Command, RowsFile};
 pub use wu_rules::Pass;
-pub use wu_views::{DueLine, HostLine, ResultLine, StatusLine, Summary, Takes, WorkunitLine};
+pub use wu_views::{DueLine, ResultLine, StatusLine, Summary, Takes, WorkunitLine};

@@ -4,7 +4,7 @@ use Rattle.wu_core.specs.Hosts.{credit_of, grants_of}
 use Rattle.wu_core.specs.declared.workunit.Grant.{Grant}
 use Rattle.wu_store.proofs.GrantSums.{count_both, counted_both, counted_parts, credit_both, grants_both, same_count, same_credit, sums_both, total_both}
 use Rattle.wu_store.specs.Sums.{AreSums, count_of, total_of}
-use Rattle.wu_store.specs.declared.changes.HostSum.{HostSum}
+use Rattle.wu_schema.specs.declared.rows.HostSum.{HostSum}
 use Rattle.wu_plans.specs.Summing.{sum_of, with_more, AreFew, AreUpTo, IsBegunBehind, PassTogether, SumsAlso}
 use Rattle.wu_core.proofs.HostLemmas.{by_order, one_name, order, turned}
 use Rattle.std.specs.Ordering.{ordering_index}

@@ -5,7 +5,7 @@ use Rattle.std.specs.Ordering.{nat_cmp}
 use Rattle.std.specs.declared.cmp.Ordering.TheVariants.{Less}
 use Rattle.wu_core.specs.declared.workunit.Grant.{Grant}
 use Rattle.wu_store.specs.Sums.{AreSums}
-use Rattle.wu_store.specs.declared.changes.HostSum.{HostSum}
+use Rattle.wu_schema.specs.declared.rows.HostSum.{HostSum}
 
 -- The sum of one grant.
 abbrev pub sum_of : Grant → HostSum

@@ -10,7 +10,7 @@ ghost use Rattle.wu_store.specs.Sums.{AreSums};
 
 use std::alloc::{AllocError, Global};
 use wu_core::{Fault, Grant};
-use wu_store::HostSum;
+use wu_schema::rows::HostSum;
 
 /// Returns references to the grants, in their order.
 fn references_to<'a>(alloc: Global, grants: &'a [Grant]) -> Result<Vec<&'a Grant>, AllocError>

@@ -8,7 +8,7 @@ use Rattle.sqlite.specs.Files.{over_files}
 use Rattle.sqlite.specs.Held.{Held}
 use Rattle.sqlite.specs.Store.{Ghosts as StoreGhosts}
 use Rattle.wu_arguments.specs.declared.order.OutputFiles.{OutputFiles}
-use Rattle.wu_cli.specs.Outputs.{KeepsSound}
+use Rattle.wu_cli.specs.Outputs.{KeepsIfSound}
 use Rattle.wu_cli.specs.declared.outputs.KeptCounts.{KeptCounts}
 use Rattle.wu_cli.specs.declared.reason.Reason.{Reason}
 use Rattle.wu_cli.specs.declared.trouble.Trouble.{Trouble}
@@ -19,7 +19,7 @@ use Rattle.wu_process.specs.Copies.{AreCopiedFrom, memory_disk}
 module _ (keeps : List ℕ → List ℕ → Type 0) (asked : OutputFiles) where
   -- The outputs of an open database are kept, and it is dropped.
   abbrev pub DropsKept : {S : Type 0} → StoreGhosts S → Held S → Result KeptCounts Trouble → Type 0
-  DropsKept {S} g conn done = (again : Held S) × KeepsSound g keeps asked conn again done
+  DropsKept {S} g conn done = (again : Held S) × KeepsIfSound g keeps asked conn again done
 
 module _ {D : Type 0} (g : Ghosts D) (keeps : List ℕ → List ℕ → Type 0) (asked : OutputFiles) where
   -- The database in the files is opened, and its outputs are kept.

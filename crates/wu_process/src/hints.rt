@@ -2,6 +2,7 @@
 //! before, and that a template lets no job succeed. No clause speaks of it.
 
 use crate::barring::why_barred;
+use crate::copy::copy_in_memory;
 use crate::database::LeftDatabase;
 use crate::expected::{Expected, expected_of};
 use crate::files::HostFiles;
@@ -11,7 +12,7 @@ use std::fs;
 use std::io::{self, ErrorKind, Write};
 use std::time::SystemTime;
 use wu_arguments::{Asking, Order, ReadFile, read_words};
-use wu_cli::Trouble;
+use wu_cli::{Reason, Trouble};
 use wu_feed::{LONGEST_TEMPLATE, read_template};
 
 /// The file of a database before the words are done.
@@ -57,15 +58,60 @@ fn is_unopened<D: Disk>(status: u8, left: &Option<LeftDatabase<D>>) -> bool {
     }
 }
 
-/// Shows why the database at the path cannot be opened, or that a check names the cause.
-fn tell_why<E: Write>(rt: &HostRuntime, path: &str, err: &mut E) {
-    match why_barred(rt, path) {
+/// Returns why the files of the database at the path were not opened: why a check does not copy them either, as for a
+/// journal, or else `Refused`, as where the file or its folder may not be written.
+fn why_refused(rt: &HostRuntime, path: &str) -> Reason {
+    match copy_in_memory(rt, path) {
+        Ok(_files) => Reason::Refused,
+        Err(Reason::Memory) => Reason::Refused,
+        Err(reason) => reason,
+    }
+}
+
+/// Returns why the database at the path cannot be opened, where this is left of it; `None` if a check, which opens a copy
+/// of it, names the cause.
+fn why_unopened<D: Disk>(
+    rt: &HostRuntime,
+    path: &str,
+    left: &Option<LeftDatabase<D>>,
+) -> Option<Reason> {
+    if let Some(reason) = why_barred(rt, path) {
+        return Some(reason);
+    }
+    let Some(LeftDatabase::Unopened(error, files)) = left else {
+        return None;
+    };
+    match Reason::of(error) {
+        Reason::NoDatabase | Reason::Damaged => None,
+        // files that were opened are still locked, and so are not copied
+        Reason::Refused if files.is_none() => Some(why_refused(rt, path)),
+        reason => Some(reason),
+    }
+}
+
+/// Shows that a check names the cause, with its command line as a shell takes it. Out of memory nothing is shown.
+fn tell_check<E: Write>(rt: &HostRuntime, path: &str, err: &mut E) {
+    if let Ok(quoted) = path.replace(rt.alloc(), '\'', "'\\''") {
+        let _ = writeln!(
+            err,
+            "a check names the cause: lintelthyme check --db='{}'",
+            quoted.as_str()
+        );
+    }
+}
+
+/// Shows why the database at the path cannot be opened, where this is left of it, or that a check names the cause.
+fn tell_why<D: Disk, E: Write>(
+    rt: &HostRuntime,
+    path: &str,
+    left: &Option<LeftDatabase<D>>,
+    err: &mut E,
+) {
+    match why_unopened(rt, path, left) {
         Some(reason) => {
             let _ = writeln!(err, "{}", reason.words());
         }
-        None => {
-            let _ = writeln!(err, "lintelthyme check --db {path} names the cause");
-        }
+        None => tell_check(rt, path, err),
     }
 }
 
@@ -153,7 +199,7 @@ impl Hints {
                 let _ = writeln!(err, "made {path}");
             }
             if is_unopened(status, left) {
-                tell_why(rt, path, err);
+                tell_why(rt, path, left, err);
             }
         }
         let is_done = status == 0 && matches!(left, Some(LeftDatabase::Closed(_)));

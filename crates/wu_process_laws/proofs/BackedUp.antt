@@ -16,7 +16,7 @@ use Rattle.wu_check.specs.declared.finding.Verdict.{Verdict}
 use Rattle.wu_check.specs.declared.finding.Verdict.TheVariants as verdict
 use Rattle.wu_core.specs.declared.fault.Fault.{Fault}
 use Rattle.wu_core.specs.World.{World}
-use Rattle.wu_lives.specs.Runs.{HoldsWorld}
+use Rattle.wu_stops.specs.Beginning.{HoldsWorld}
 use Rattle.wu_passes.specs.Committing.{FoundAs}
 use Rattle.wu_tables.specs.Others.{HasOnlyAProject}
 use Rattle.wu_schema.specs.Asking.{Asks, IsAsBefore}

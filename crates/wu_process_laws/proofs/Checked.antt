@@ -32,7 +32,7 @@ use Rattle.sqlite.specs.declared.file.Leftover.{Leftover}
 use Rattle.sqlite.specs.declared.file.Leftover.TheVariants as left
 use Rattle.wu_schema.proofs.Words.{Has, all_has}
 use Rattle.wu_core.specs.World.{World}
-use Rattle.wu_check.specs.Checking.{HasWholeRows, IsInOrder, IsKept, IsSoundProject}
+use Rattle.wu_check.specs.Checking.{HasWholeRows, HasRowsInOrder, IsWellKept, IsSoundProject}
 use Rattle.wu_check.specs.Findings.{IsSoundAs, SaysLater, SaysSound, SaysUnsound, SaysWhy}
 use Rattle.wu_check.specs.declared.finding.Counts.{Counts}
 use Rattle.wu_check.specs.declared.finding.Finding.{Finding}
@@ -53,12 +53,12 @@ use Rattle.wu_cli.specs.declared.trouble.Trouble.TheVariants as trouble
 use Rattle.wu_process.specs.Checks.{ChecksOpened, ChecksUnopened}
 use Rattle.wu_process.specs.Copies.{memory_disk}
 use Rattle.wu_process_laws.specs.Checked.{EachCheckIsTrue, ReportsSound, FindsWith, image_of_bytes, IsTakenName, IsToldTruly, IsWant, TellsOfFiles}
-use Rattle.wu_process_laws.proofs.Leaving.{none_beside}
+use Rattle.wu_stops.proofs.BeginningLemmas.{none_beside}
 
 -- ---- order
 
 -- the rows of each table that an opening finds stand in order of their rowids
-pub found_in_order : (image : Image) (db : Database) → AreFoundIn image db.trees → IsDatabase db → IsInOrder db
+pub found_in_order : (image : Image) (db : Database) → AreFoundIn image db.trees → IsDatabase db → HasRowsInOrder db
 found_in_order image db (inl (size, pages, wanted, adopts, ours, reads)) sound table has =
     ∥∥₁_elim ours (IsShaped-prop shape.Table (db.trees table.tree)) (λ it.
     let ordered : IsOrdered (all_shapes wanted) (file_trees size wanted pages) = all_ordered it.file.db (version_in pages) in
@@ -100,13 +100,13 @@ found_by (Err fault) finding P gives says = absurd cc
 
 module _ {W : Type 0} (contents : W → Option (List ℕ)) (old new : W) (done : Result (Unit {0}) Trouble) where
   module _ (image : Image) (db : Database) (found : AreFoundIn image db.trees) (sound : IsDatabase db) where
-    kept : HasWholeRows db → IsKept db
+    kept : HasWholeRows db → IsWellKept db
     kept whole = record { ordered = found_in_order image db found sound; whole = whole }
 
-    finds : (P : Database → Type 0) → (IsKept db → P db) → FindsWith image P
+    finds : (P : Database → Type 0) → (IsWellKept db → P db) → FindsWith image P
     finds P holds = record { db = db; found = found; sound = sound; holds = λ whole. holds (kept whole) }
 
-    sound_from : (v : Result Verdict Fault) (its : Result Counts Trouble) → AreOfVerdict v its → (IsKept db → IfOk v (SaysSound db)) → TellsSound contents old new its done → done ≡ Ok tt → ReportsSound image (contents old) (contents new)
+    sound_from : (v : Result Verdict Fault) (its : Result Counts Trouble) → AreOfVerdict v its → (IsWellKept db → IfOk v (SaysSound db)) → TellsSound contents old new its done → done ≡ Ok tt → ReportsSound image (contents old) (contents new)
     sound_from v (Ok counts) gives says tells is = record {
       counts = counts;
       told = subst (λ (r : Result (Unit {0}) Trouble). WritesBytes (contents old) (contents new) (sound_line counts) r) is tells.0;
@@ -114,7 +114,7 @@ module _ {W : Type 0} (contents : W → Option (List ℕ)) (old new : W) (done :
     }
     sound_from v (Err told) gives says tells is = absurd (let e = tells.0 in cc)
 
-    why_from : (v : Result Verdict Fault) (its : Result Counts Trouble) (limit : Option ℕ) → limit ≡ None → AreOfVerdict v its → (IsKept db → IfOk v (SaysWhy db)) → (IsKept db → IfOk v (SaysLater limit db)) → TellsSound contents old new its done
+    why_from : (v : Result Verdict Fault) (its : Result Counts Trouble) (limit : Option ℕ) → limit ≡ None → AreOfVerdict v its → (IsWellKept db → IfOk v (SaysWhy db)) → (IsWellKept db → IfOk v (SaysLater limit db)) → TellsSound contents old new its done
         → (finding : Finding) → done ≡ Err (trouble.Unsound finding) → FindsWith image (λ d. IsToldTruly d finding)
     why_from v (Ok counts) limit unlimited gives says later tells finding is =
         absurd (let e : trouble.Unsound finding ≡ trouble.Fault Output = subst (λ (r : Result (Unit {0}) Trouble). IsOkUnless r (trouble.Fault Output)) is tells.1 in cc)

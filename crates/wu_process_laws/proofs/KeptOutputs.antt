@@ -14,7 +14,7 @@ use Rattle.wu_core.specs.declared.fault.Fault.{Fault}
 use Rattle.wu_check.specs.declared.finding.Counts.{Counts}
 use Rattle.wu_check.specs.declared.finding.Verdict.{Verdict}
 use Rattle.wu_check.specs.declared.finding.Verdict.TheVariants as verdict
-use Rattle.wu_lives.specs.Runs.{HoldsWorld}
+use Rattle.wu_stops.specs.Beginning.{HoldsWorld}
 use Rattle.wu_store.specs.StandsFor.{KnowsClasses}
 use Rattle.wu_views.specs.Lines.{archived_lines}
 use Rattle.wu_arguments.specs.declared.order.OutputFiles.{OutputFiles}

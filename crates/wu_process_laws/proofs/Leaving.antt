@@ -1,7 +1,6 @@
 -- From what a run found to what it left.
-use Rattle.std.proofs.Common.{◌≡◌, ◌⊎◌, ℕ, ◌+◌, true, false, Bool, List, [], ◌∷◌, ◌++◌, length, filter, codes, map, take, None, Option, Some, Result, Ok, Err, inl, inr, refl, sym, ap, subst, ◌∙◌, arith, IsTrue}
+use Rattle.std.proofs.Common.{◌≡◌, ◌⊎◌, ℕ, ◌+◌, true, false, Bool, List, [], ◌∷◌, ◌++◌, length, map, take, None, Option, Some, Result, Ok, Err, inl, inr, refl, sym, ap, subst, ◌∙◌, arith, IsTrue}
 use Rattle.std.proofs.Math.Logic.{∥∥₁_map}
-use Rattle.std.specs.List.{AllZip}
 use Rattle.std.proofs.lemmas.List.{map-append, take_more}
 use Rattle.std.proofs.lemmas.Option.{get_or_from_slice_get, slice_get_within}
 use Rattle.std.specs.Prelude.{IfErr, OnOk, slice_get}
@@ -11,21 +10,16 @@ use Rattle.sqlite_wal.proofs.LogLemmas.{SeenMayStay}
 use Rattle.sqlite_wal.specs.Files.{outcomes}
 use Rattle.sqlite_wal.specs.Reads.{AreClean}
 use Rattle.sqlite_wal.specs.Recovery.{Image}
-use Rattle.sqlite_trees.specs.Objects.{catalog_tree}
-use Rattle.sqlite_catalog.specs.Listing.{is_table_row, is_index_row, is_view_row, IsIndexRow, IsTableRow, IsViewRow, Lists}
 use Rattle.sqlite_pool.proofs.StateLemmas.{clean_is, may_leave_is}
 use Rattle.sqlite_trees.proofs.Doubt.{no_doubt}
 use Rattle.sqlite_trees.specs.View.{IsClean}
 use Rattle.sqlite_store.specs.FileStore.{state, view, files as store_files}
-use Rattle.sqlite_store.specs.Laws.{settled_at, stays_at}
+use Rattle.sqlite_store.specs.Laws.{stays_at}
 use Rattle.sqlite_store.specs.declared.store.FileStore.{FileStore}
 use Rattle.sqlite.specs.Closing.{IsCopied}
-use Rattle.sqlite.specs.Effect.{Database}
 use Rattle.sqlite.proofs.Theorems.{opens_again}
-use Rattle.sqlite.specs.Files.{AreFoundIn, HoldsDatabase, IsClosed, IsEmpty, IsOpened, file_state, over_files}
+use Rattle.sqlite.specs.Files.{HoldsDatabase, IsClosed, IsOpened, file_state, over_files}
 use Rattle.sqlite.specs.Held.{Held}
-use Rattle.sqlite.specs.Order.{Row}
-use Rattle.sqlite.specs.Schema.{Schema}
 use Rattle.sqlite.specs.Start.{FindsIn}
 use Rattle.sqlite.specs.State.{HasCleanDisk}
 use Rattle.sqlite.specs.Tree.{Trees}
@@ -38,14 +32,10 @@ use Rattle.wu_machine.specs.Machine.{fold_steps, step}
 use Rattle.wu_machine.specs.declared.command.Command.{Command}
 use Rattle.wu_machine.specs.Sound.{IsProject}
 use Rattle.wu_machine.specs.declared.command.Answer.{Answer}
-use Rattle.wu_passes.specs.Adopting.{IsVacant}
+use Rattle.wu_passes.specs.Adopting.{BeginsFrom}
 use Rattle.wu_passes.specs.Committing.{FoundAs}
 use Rattle.wu_passes.specs.Projects.{has_ended, state_of}
 use Rattle.wu_passes.specs.Standing.{GoesOn}
-use Rattle.wu_schema.specs.Refines.{IsFree}
-use Rattle.wu_store.specs.StandsFor.{StandsFor}
-use Rattle.wu_stops.proofs.StoppingLemmas.{stands_still}
-use Rattle.wu_schema.proofs.VersionLemmas.{free_lacks}
 use Rattle.wu_arguments.specs.Statuses.{fault_status}
 use Rattle.wu_arguments.specs.declared.action.Action.{Action}
 use Rattle.wu_arguments.specs.declared.action.Action.TheVariants.{Commands, Look, Refused}
@@ -53,13 +43,14 @@ use Rattle.wu_arguments.specs.declared.step.LineFault.{LineFault}
 use Rattle.wu_cli.specs.Trying.{RanStep}
 use Rattle.wu_cli.specs.Scripting.{so_far}
 use Rattle.wu_cli.specs.Troubles.{trouble_status}
-use Rattle.wu_cli.specs.Working.{BeginsFrom, commands_of_work, DoesAdopted, DoesNothing, DoesOver, DrivesWork, line_outcome, RefusesWork, script_outcome}
+use Rattle.wu_cli.specs.Working.{commands_of_work, DoesAdopted, BeginsNothing, DoesOver, DrivesWork, line_outcome, RefusesWork, script_outcome}
 use Rattle.wu_cli.specs.Printing.{printed_action}
 use Rattle.wu_cli.proofs.PrintLemmas.{one_prints}
 use Rattle.wu_cli.proofs.ScriptLemmas.{script_clean}
 use Rattle.wu_cli.proofs.TellingLemmas.{drives_script}
-use Rattle.wu_cli.proofs.WorkLemmas.{begins, line_whole, script_whole, work_clean, work_drives}
+use Rattle.wu_cli.proofs.WorkLemmas.{line_whole, script_whole, work_clean, work_drives}
 use Rattle.wu_passes.proofs.SessionLemmas.{over_shows}
+use Rattle.wu_passes.proofs.AdoptingLemmas.{begins_over}
 use Rattle.wu_report.specs.Writing.{WritesTo}
 use Rattle.wu_arguments.specs.declared.step.Script.{Script}
 use Rattle.std.proofs.Math.Seq.{take-length}
@@ -74,7 +65,8 @@ use Rattle.sqlite_disk.specs.declared.start.Start as start
 use Rattle.sqlite_std_file.specs.declared.host.Host.{Host}
 use Rattle.sqlite_wal.specs.Files.{image_at}
 use Rattle.wu_stops.specs.Closing.{IsNumbered}
-use Rattle.wu_lives.specs.Runs.{HoldsWorld}
+use Rattle.wu_stops.specs.Beginning.{HoldsWorld}
+use Rattle.wu_stops.proofs.BeginningLemmas.{goes_from, blank_vacant}
 use Rattle.wu_process.specs.Opening.{IsOpenedAt}
 use Rattle.wu_process.specs.Running.{ExportsIfDone, TellsTrouble}
 use Rattle.wu_process.specs.declared.End.{End}
@@ -116,7 +108,7 @@ was_clean : {D W : Type 0} {g : Ghosts D} (contents : W → Option (List ℕ)) (
 was_clean contents conn again old new asked done (inl does) clean =
     let after : HasCleanDisk (state_of does.new) = subst (λ c. HasCleanDisk (file_state c)) does.released clean in
     let kept = work_clean contents does.old does.new old new asked done does.does in
-    omega (arith, kept, after, does.adopts.clean)
+    omega (arith, kept, after, does.begins.adopts.clean)
 was_clean contents conn again old new asked done (inr none) clean = omega (arith, clean, none.refused.clean)
 
 -- ---- what was told of the work
@@ -150,8 +142,8 @@ module _ {D W : Type 0} {g : Ghosts D} (contents : W → Option (List ℕ)) (con
       let (answers, written, driven, driven_from) = runs.answers in
       let after : HasCleanDisk (state_of does.new) = subst (λ c. HasCleanDisk (file_state c)) does.released clean in
       let before : HasCleanDisk (state_of does.old) = let kept = runs.clean in omega (arith, kept, after) in
-      let over = begins over_files contents conn again old new _ done does before world project begun in
-      let drives = driven does.begins after world over in
+      let over = begins_over over_files conn does.old does.begins before world project begun in
+      let drives = driven does.begins.going after world over in
       let it : Drives world commands answers (so_far run.acknowledged) (has_ended does.new) (state_of does.new) = record {
         within = drives.within;
         answered = drives.answered;
@@ -181,8 +173,8 @@ module _ {D W : Type 0} {g : Ghosts D} (contents : W → Option (List ℕ)) (con
       let (end, performs, told) = does.does in
       let after : HasCleanDisk (state_of does.new) = subst (λ c. HasCleanDisk (file_state c)) does.released clean in
       let before : HasCleanDisk (state_of does.old) = let kept = script_clean contents does.old does.new old new script.steps end performs in omega (arith, kept, after) in
-      let over = begins over_files contents conn again old new _ done does before world project begun in
-      let (ran, are, driven) = drives_script contents does.old does.new old new script.steps end performs does.begins after world over in
+      let over = begins_over over_files conn does.old does.begins before world project begun in
+      let (ran, are, driven, on) = drives_script contents does.old does.new old new script.steps end performs does.begins.going after world over in
       let commands = commands_of_work world (work.Script script) ran in
       let whole : OnOk done (driven.count ≡ length commands) = subst (λ (d : Result (Unit {0}) Trouble). OnOk d (driven.count ≡ length commands)) (sym told) (script_whole end _ driven.whole) in (
         record {
@@ -204,10 +196,10 @@ module _ {D W : Type 0} {g : Ghosts D} (contents : W → Option (List ℕ)) (con
       let (end, acts, told) = does.does in
       let after : HasCleanDisk (state_of does.new) = subst (λ c. HasCleanDisk (file_state c)) does.released clean in
       let before : HasCleanDisk (state_of does.old) = let kept = work_clean contents does.old does.new old new (work.Line action) done does.does in omega (arith, kept, after) in
-      let over = begins over_files contents conn again old new _ done does before world project begun in
-      let drives = work_drives contents does.old does.new old new (work.Line action) done does.does does.begins after world over in
+      let over = begins_over over_files conn does.old does.begins before world project begun in
+      let drives = work_drives contents does.old does.new old new (work.Line action) done does.does does.begins.going after world over in
       let writes = subst (λ (d : Result (Unit {0}) Trouble). WritesTo contents old new (printed_action world action) d) (sym told)
-      (one_prints contents does.old does.new old new action end acts does.begins after world (over_shows does.old world over)) in
+      (one_prints contents does.old does.new old new action end acts does.begins.going after world (over_shows does.old world over)) in
       (subst (λ c. DrivesWork world (work.Line action) done (file_state c)) (sym does.released) drives, text_of done writes)
     where
       text : List ℕ
@@ -220,7 +212,7 @@ module _ {D W : Type 0} {g : Ghosts D} (contents : W → Option (List ℕ)) (con
   abbrev RefusedWork : World → Type 0
   RefusedWork world = RefusesWork (file_state conn) (file_state again) world done × (contents new ≡ contents old)
 
-  nothing_told : (asked : Work) → DoesNothing over_files contents conn again old new asked done → HasCleanDisk (file_state again) → (world : World) → RefusedWork world
+  nothing_told : (asked : Work) → BeginsNothing over_files contents conn again old new asked done → HasCleanDisk (file_state again) → (world : World) → RefusedWork world
   nothing_told asked none clean world = (
     record {
       fault = none.fault;
@@ -241,44 +233,10 @@ module _ {D W : Type 0} {g : Ghosts D} (contents : W → Option (List ℕ)) (con
 
 -- ---- what a run begins with
 
-pub none_beside : {A B : Type 0} (R : A → B → Type 0) (xs : List A) (ys : List B) → xs ≡ [] → AllZip R xs ys → ys ≡ []
-none_beside R [] [] none all = refl
-none_beside R [] (y ∷ ys) none all = absurd all
-none_beside R (x ∷ xs) ys none all = absurd cc
-
-free_of_none : (schema : Schema) (objects : List Row) (name : List ℕ) → objects ≡ [] → Lists objects schema → IsFree schema name
-free_of_none schema objects name none lists = record {
-  table = rw (none_beside IsTableRow _ schema.tables (ap (λ rs. filter is_table_row rs) none) lists.listed.tables) refl;
-  index = rw (none_beside (IsIndexRow schema.tables) _ schema.indexes (ap (λ rs. filter is_index_row rs) none) lists.listed.indexes) refl;
-  view = rw (none_beside IsViewRow _ schema.views (ap (λ rs. filter is_view_row rs) none) lists.listed.views) refl;
-}
-
--- a file with no byte holds no database
-no_database : (image : Image) (db : Trees) → image.db ≡ [] → AreFoundIn image db → IsEmpty db
-no_database image db blank (inl (size, pages, wanted, adopts, ours, reads)) = let low = adopts.found.present in absurd (omega (arith, low, ap (λ bytes. length bytes) blank))
-no_database image db blank (inr (nothing, empty)) = empty
-
 module _ {D : Type 0} {g : Ghosts D} (stays : SeenMayStay g) (conn : Held (FileStore D g)) (opened : IsOpened conn) (image : Image) (found : FindsIn image (file_state conn)) where
-  no_project : image.db ≡ [] → IsVacant (file_state conn)
-  no_project blank =
-      let same : (file_state conn).now ≡ (file_state conn).committed = opened.0.clean in
-      let none : (file_state conn).now.trees catalog_tree ≡ [] = ap (λ (d : Database). d.trees catalog_tree) same ∙ (no_database image _ blank found.reads).1 in
-      free_lacks _ (free_of_none _ _ (codes "project") none ((opened.1 opened.0.is_open).0.lists))
-
-  pub goes_from : (world : World) → HoldsWorld image world → GoesOn (file_state conn) world
-  goes_from world held =
-      let same : (file_state conn).now ≡ (file_state conn).committed = opened.0.clean in
-      let it : FoundAs (file_state conn).committed.trees world = subst (λ (db : Trees). FoundAs db world) (sym (found.holds held.trees held.holds)) held.found in
-      let stands : StandsFor (file_state conn).now world =
-      stands_still it.database (file_state conn).now world it.stands (opened.1 opened.0.is_open).0 (ap (λ (d : Database). d.trees) same ∙ sym it.same) in
-      record {
-        stands = λ is_open. (stands, sym same);
-        left = λ db may. subst (λ (t : Trees). FoundAs t world) (sym (settled_at conn.store stays db opened.0.is_open may)) it;
-      }
-
   pub begins_from : (world : World) → ImageRefines image world → BeginsFrom (file_state conn) world
-  begins_from world (inl held) = inl (goes_from world held)
-  begins_from world (inr (blank, same)) = inr (no_project blank, same)
+  begins_from world (inl held) = inl (goes_from conn opened image found stays world held)
+  begins_from world (inr (blank, same)) = inr (blank_vacant conn opened image found blank, same)
 
 -- ---- what it leaves
 
@@ -296,7 +254,7 @@ module _ {D : Type 0} {g : Ghosts D} (again : Held (FileStore D g)) (files : Fil
       let held : HoldsWorld image world = record { trees = it.0; holds = it.2; found = goes.left it.0 it.1 } in held)
 
   -- a session that ended within a command left the connection open, so the world of before that is committed
-  hold_after : IsTrue (file_state again).is_open → (world : World) (commands : List Command) (answers : List Answer) (count : ℕ) (is_cut : Bool)
+  pub hold_after : IsTrue (file_state again).is_open → (world : World) (commands : List Command) (answers : List Answer) (count : ℕ) (is_cut : Bool)
       → Drives world commands answers (so_far count) is_cut (file_state again) → OfEachImage g files (HoldAfter world commands count)
   hold_after is_open world commands answers count is_cut drives image may = ∥∥₁_map (all_hold (world_after world commands count) (goes is_cut drives) image may) (λ held.
       let it : HoldAfter world commands count image = record { held = held; project = drives.project } in it)
@@ -306,7 +264,7 @@ module _ {D : Type 0} {g : Ghosts D} (again : Held (FileStore D g)) (files : Fil
       goes true drives = (drives.ended refl).2.stands is_open
 
   -- or that of after it may be
-  hold_one_more : (world : World) (commands : List Command) (answers : List Answer) (count : ℕ) (is_cut : Bool)
+  pub hold_one_more : (world : World) (commands : List Command) (answers : List Answer) (count : ℕ) (is_cut : Bool)
       → Drives world commands answers (so_far count) is_cut (file_state again) → OfEachImage g files (HoldAfterOneMore world commands count)
   hold_one_more world commands answers count is_cut drives image may = ∥∥₁_map (each image may) (λ it. kept is_cut drives it.0 it.1 it.2)
     where
@@ -383,10 +341,10 @@ module _ {D : Type 0} {g : Ghosts D} (again : Held (FileStore D g)) (last : File
   clean : IsClean (view last)
   clean = no_doubt _ (clean_is last.pool ∙ sure)
 
-  unclosed_clean : HasCleanDisk (file_state again)
+  pub unclosed_clean : HasCleanDisk (file_state again)
   unclosed_clean = let now = clean in omega (arith, now, closed.quiet.clean)
 
-  unclosed_each : OfEachImage g files (λ image. (db : Trees) × (file_state again).may_leave db × HoldsDatabase image db)
+  pub unclosed_each : OfEachImage g files (λ image. (db : Trees) × (file_state again).may_leave db × HoldsDatabase image db)
   unclosed_each image may =
       let allowed : (state last).may_leave image = may_leave_is last.pool image sure (subst (λ (p : D × D). outcomes g p.0 p.1 image) is may) in
       ∥∥₁_map (opens_again last numbered (closed.sound clean) image allowed) (λ it. (it.0, closed.quiet.outcomes it.0 it.1, it.2))
@@ -406,7 +364,7 @@ module _ {S W E : Type 0} {c : calls.Ghosts Host} {s : start.Ghosts S} {g : Ghos
       let found : FindsIn (image_at s) (file_state conn) = at.finds early in
       elim (work_told contents conn again old new done asked does clean world project (begins_from stays conn opened (image_at s) found world start)) [
         | inl works ↦ inl (leaves_done again files each done status has says (contents old) (contents new) world asked works.0 works.1 (hold world works.0))
-        | inr refuses ↦ inr (leaves_as_it_was again files each done status has conn (image_at s) (contents old) (contents new) world (goes_from stays conn opened (image_at s) found world) refuses.0 refuses.1)
+        | inr refuses ↦ inr (leaves_as_it_was again files each done status has conn (image_at s) (contents old) (contents new) world (goes_from conn opened (image_at s) found stays world) refuses.0 refuses.1)
       ]
 
   pub leaves_its_work : (end : End (Modelled Host S c s) g) → LeavesItsWork contents told_of end
@@ -430,10 +388,10 @@ module _ {S W E : Type 0} {c : calls.Ghosts Host} {s : start.Ghosts S} {g : Ghos
       let it = opens.does.does in
       let has = first_status contents _ runs.work _ _ told_of run.err_old run.err_new opens.first run.obeys.done end.status end.is_told opens.exports run.obeys.tells in
       λ honest.
-      let each = unclosed_each it.again run.store it.closed.quiet run.numbered run.files run.files_are honest in
-      opened_leaves HoldAfterOneMore conn it.again _ runs.work run.old opens.mid opens.first end.status run.files opens.does.opened it.does has
-      (unclosed_clean it.again run.store it.closed.quiet run.numbered run.files run.files_are honest) each
-      (λ world works. hold_one_more it.again run.files each world (commands_of_work world runs.work works.ran) works.answers works.count works.is_cut works.drives)
+      let each = unclosed_each it.again run.close.store it.closed.quiet run.close.numbered run.close.files run.close.files_are honest in
+      opened_leaves HoldAfterOneMore conn it.again _ runs.work run.old opens.mid opens.first end.status run.close.files opens.does.opened it.does has
+      (unclosed_clean it.again run.close.store it.closed.quiet run.close.numbered run.close.files run.close.files_are honest) each
+      (λ world works. hold_one_more it.again run.close.files each world (commands_of_work world runs.work works.ran) works.answers works.count works.is_cut works.drives)
 
 -- ---- one after another
 

@@ -10,7 +10,7 @@ use Rattle.wu_check.specs.Findings.{IsSoundAs}
 use Rattle.wu_check.specs.declared.finding.Counts.{Counts}
 use Rattle.wu_cli.specs.declared.trouble.Trouble.{Trouble}
 use Rattle.wu_core.specs.World.{World}
-use Rattle.wu_lives.specs.Runs.{HoldsWorld}
+use Rattle.wu_stops.specs.Beginning.{HoldsWorld}
 use Rattle.wu_process.specs.Backups.{BecomesFile, MakesOfCopy, may_become}
 use Rattle.wu_process.specs.declared.backup.Folded.{Folded}
 use Rattle.wu_tables.specs.Others.{HasOnlyAProject}

@@ -4,7 +4,7 @@ use Rattle.std.specs.Io.KnownBytes.{Appends}
 use Rattle.sqlite.specs.Effect.{Database, IsDatabase}
 use Rattle.sqlite.specs.Files.{AreFoundIn}
 use Rattle.sqlite_wal.specs.Recovery.{Image}
-use Rattle.wu_check.specs.Checking.{HasWholeRows, IsKnown}
+use Rattle.wu_check.specs.Checking.{HasWholeRows, IsKnownVersion}
 use Rattle.wu_check.specs.Findings.{IsSoundAs, PutsLaterFirst, Tells, TellsOfSound}
 use Rattle.wu_check.specs.declared.finding.Counts.{Counts}
 use Rattle.wu_check.specs.declared.finding.Finding.{Finding}
@@ -16,7 +16,7 @@ use Rattle.wu_cli.specs.Checks.{sound_line}
 use Rattle.wu_cli.specs.declared.reason.Reason.TheVariants.{Damaged, Memory}
 use Rattle.wu_cli.specs.declared.trouble.Trouble.{Trouble}
 use Rattle.wu_cli.specs.declared.trouble.Trouble.TheVariants as trouble
-use Rattle.wu_lives.specs.Runs.{HoldsWorld}
+use Rattle.wu_stops.specs.Beginning.{HoldsWorld}
 use Rattle.wu_process.specs.Checks.{ChecksCopy}
 use Rattle.wu_process.specs.declared.copy.FileBytes.{FileBytes}
 
@@ -67,7 +67,7 @@ pub record TellsOfFiles (image : Image) (before after : Option (List ℕ)) (done
   pub sound : done ≡ Ok tt → ReportsSound image before after
   -- If the files hold a sound project of a known version, no trouble is reported except out of memory, a failed copy, a
   -- failed output, or a name that something has and that its upgrade gives. An upgrade of the present version gives none.
-  pub unsound : (world : World) → HoldsWorld image world → IsSound world → IsKnown world.version
+  pub unsound : (world : World) → HoldsWorld image world → IsSound world → IsKnownVersion world.version
       → IfErr done (λ told. IsWant told ⊎ IsTakenName image world told)
   -- If something is reported to be wrong, it is wrong.
   pub why : (finding : Finding) → done ≡ Err (trouble.Unsound finding) → FindsWith image (λ db. IsToldTruly db finding)

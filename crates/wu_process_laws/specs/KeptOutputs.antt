@@ -4,7 +4,7 @@ use Rattle.sqlite_wal.specs.Recovery.{Image}
 use Rattle.wu_check.specs.Findings.{IsSoundAs}
 use Rattle.wu_core.specs.Names.{is_name}
 use Rattle.wu_core.specs.World.{World}
-use Rattle.wu_lives.specs.Runs.{HoldsWorld}
+use Rattle.wu_stops.specs.Beginning.{HoldsWorld}
 use Rattle.wu_store.specs.StandsFor.{KnowsClasses}
 use Rattle.wu_views.specs.Lines.{archived_lines}
 use Rattle.wu_arguments.specs.declared.order.OutputFiles.{OutputFiles}

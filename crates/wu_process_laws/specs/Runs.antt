@@ -34,7 +34,7 @@ use Rattle.wu_cli.specs.Working.{commands_of_work, WorkRanAs}
 use Rattle.wu_cli.specs.declared.work.Work.{Work}
 use Rattle.wu_cli.specs.declared.work.Work.TheVariants as work
 use Rattle.wu_stops.specs.Closing.{IsNumbered}
-use Rattle.wu_lives.specs.Runs.{HoldsWorld}
+use Rattle.wu_stops.specs.Beginning.{HoldsWorld}
 use Rattle.wu_process.specs.Running.{Obeys, RunsAsked, RunsWords}
 use Rattle.wu_process.specs.declared.End.{End}
 use Rattle.wu_process.specs.declared.database.LeftDatabase.TheVariants as left
@@ -112,6 +112,15 @@ module _ {D : Type 0} (g : Ghosts D) (files : Files D) (says : Holds) (before af
 
 -- ---- one run
 
+-- A close that failed: the store that it left, and the two files.
+pub record FailedClose {S : Type 0} {c : calls.Ghosts Host} {s : start.Ghosts S} {g : Ghosts (Modelled Host S c s)} (end : End (Modelled Host S c s) g) : Type 0 where
+  pub error : Error
+  pub store : FileStore (Modelled Host S c s) g
+  pub unclosed : end.left ≡ Some (left.Unclosed error store)
+  pub numbered : IsNumbered store
+  pub files : Files (Modelled Host S c s)
+  pub files_are : (files.log, files.db) ≡ store_files store
+
 module _ {S W E : Type 0} {c : calls.Ghosts Host} {s : start.Ghosts S} {g : Ghosts (Modelled Host S c s)} (contents : W → Option (List ℕ)) (told_of : E → Option (List ℕ)) where
   -- A run that ended so and closed its database: its words and outputs, and the two files.
   pub record ClosedRun (end : End (Modelled Host S c s) g) : Type 0 where
@@ -124,8 +133,7 @@ module _ {S W E : Type 0} {c : calls.Ghosts Host} {s : start.Ghosts S} {g : Ghos
     pub files : Files (Modelled Host S c s)
     pub closed : end.left ≡ Some (left.Closed files)
 
-  -- A run that ended so and whose close failed, as after a failed disk: its words and outputs, the store that it left,
-  -- and the two files.
+  -- A run that ended so and whose close failed, as after a failed disk: its words and outputs, and what the close left.
   pub record UnclosedRun (end : End (Modelled Host S c s) g) : Type 0 where
     pub words : List (List ℕ)
     pub old : W
@@ -133,19 +141,14 @@ module _ {S W E : Type 0} {c : calls.Ghosts Host} {s : start.Ghosts S} {g : Ghos
     pub err_old : E
     pub err_new : E
     pub obeys : Obeys contents told_of words old new err_old err_new end
-    pub error : Error
-    pub store : FileStore (Modelled Host S c s) g
-    pub unclosed : end.left ≡ Some (left.Unclosed error store)
-    pub numbered : IsNumbered store
-    pub files : Files (Modelled Host S c s)
-    pub files_are : (files.log, files.db) ≡ store_files store
+    pub close : FailedClose end
 
   -- How the run opened its database and did what its words ask for.
   abbrev pub done_by : (end : End (Modelled Host S c s) g) → (run : ClosedRun end) → RunsAsked {g = g} contents run.words run.old run.new run.obeys.done (left.Closed run.files)
   done_by end run = subst (λ l. RunsWords {g = g} contents run.words run.old run.new run.obeys.done l) run.closed run.obeys.runs
 
-  abbrev pub done_by_unclosed : (end : End (Modelled Host S c s) g) → (run : UnclosedRun end) → RunsAsked {g = g} contents run.words run.old run.new run.obeys.done (left.Unclosed run.error run.store)
-  done_by_unclosed end run = subst (λ l. RunsWords {g = g} contents run.words run.old run.new run.obeys.done l) run.unclosed run.obeys.runs
+  abbrev pub done_by_unclosed : (end : End (Modelled Host S c s) g) → (run : UnclosedRun end) → RunsAsked {g = g} contents run.words run.old run.new run.obeys.done (left.Unclosed run.close.error run.close.store)
+  done_by_unclosed end run = subst (λ l. RunsWords {g = g} contents run.words run.old run.new run.obeys.done l) run.close.unclosed run.obeys.runs
 
   -- The files hold a prefix of the work that was done, and no more. What went out before the exports of a script reports
   -- it.
@@ -157,7 +160,7 @@ module _ {S W E : Type 0} {c : calls.Ghosts Host} {s : start.Ghosts S} {g : Ghos
 
   -- The files hold what was done, and at most the one command that was cut.
   abbrev pub LeavesItsDoneOrMore : (end : End (Modelled Host S c s) g) → UnclosedRun end → Type 0
-  LeavesItsDoneOrMore end run = LeavesBeginning g run.files HoldAfterOneMore (contents run.old) (contents (done_by_unclosed end run).runs.mid) (image_at s) (done_by_unclosed end run).work end.status
+  LeavesItsDoneOrMore end run = LeavesBeginning g run.close.files HoldAfterOneMore (contents run.old) (contents (done_by_unclosed end run).runs.mid) (image_at s) (done_by_unclosed end run).work end.status
 
   abbrev pub LeavesItsWorkUnclosed : End (Modelled Host S c s) g → Type 0
   LeavesItsWorkUnclosed end = (run : UnclosedRun end) → LeavesItsDoneOrMore end run
@@ -197,11 +200,11 @@ module _ {S T W E : Type 0} {c d : calls.Ghosts Host} {s : start.Ghosts S} {t : 
     pub left : LeavesItsDoneOrMore contents told_of first one
     pub next : LeavesItsDone contents told_of second two
     pub done :
-        AreClean h two.files.log two.files.db → (world : World) (it : LeavesDone g one.files HoldAfterOneMore (contents one.old) (contents (done_by_unclosed contents told_of first one).runs.mid) world (done_by_unclosed contents told_of first one).work first.status)
+        AreClean h two.files.log two.files.db → (world : World) (it : LeavesDone g one.close.files HoldAfterOneMore (contents one.old) (contents (done_by_unclosed contents told_of first one).runs.mid) world (done_by_unclosed contents told_of first one).work first.status)
         → ∥ DoesNextAfter two (done_by contents told_of second two).work world (commands_of_work world (done_by_unclosed contents told_of first one).work it.ran) it.count ∥₁
     pub kept :
         AreClean h two.files.log two.files.db → (world : World) → IsProject world → HoldsWorld (image_at s) world
-        → LeavesAsItWas g one.files (image_at s) (contents one.old) (contents (done_by_unclosed contents told_of first one).runs.mid) world first.status
+        → LeavesAsItWas g one.close.files (image_at s) (contents one.old) (contents (done_by_unclosed contents told_of first one).runs.mid) world first.status
         → ∥ DoesNext two (done_by contents told_of second two).work world ∥₁
 
   -- If the second run begins over what a crash left of the first, it goes on from there.
@@ -212,5 +215,5 @@ module _ {S T W E : Type 0} {c d : calls.Ghosts Host} {s : start.Ghosts S} {t : 
 
   abbrev pub BeginsWhereOneStopped : Type 0
   BeginsWhereOneStopped =
-      (one : UnclosedRun contents told_of first) (two : ClosedRun contents told_of second) → outcomes g one.files.log one.files.db (image_at t)
+      (one : UnclosedRun contents told_of first) (two : ClosedRun contents told_of second) → outcomes g one.close.files.log one.close.files.db (image_at t)
       → GoAfterStop one two

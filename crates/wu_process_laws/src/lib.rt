@@ -6,7 +6,7 @@ ghost use Rattle.wu_process_laws.specs.BackedUp.{EachBackupHolds};
 ghost use Rattle.wu_process_laws.specs.Checked.{EachCheckIsTrue};
 ghost use Rattle.wu_process_laws.specs.KeptOutputs.{EachNameHasItsFile, EachOutputBeforeHasItsFile, EachOutputHasItsFile};
 ghost use Rattle.wu_process_laws.specs.Runs.{BeginsWhereOneEnded, BeginsWhereOneStopped, LeavesItsWork, LeavesItsWorkUnclosed};
-ghost use Rattle.wu_process_laws.specs.SessionRuns.{LeavesItsLines, SessionsBeginWhereOneEnded};
+ghost use Rattle.wu_process_laws.specs.SessionRuns.{LeavesItsLines, LeavesItsLinesUnclosed, SessionsBeginWhereOneEnded};
 
 use sqlite::{FileFrom, Start};
 use std::io::{self, BufRead, Write};
@@ -41,6 +41,14 @@ pub fn a_session_leaves_a_beginning<S: Start, O: Write, E: Write>(end: &End<File
     ensures { LeavesItsLines O.contents E.contents end.now }
 {}
 
+/// Shows the same of a session whose close failed, as where the disk failed or the power went during a line; the command
+/// that was cut may be in it.
+pub fn a_stopped_session_leaves_a_beginning<S: Start, O: Write, E: Write>(end: &End<FileFrom<S>>)
+    // The same holds where the close failed and its store is numbered as its catalog says. Each
+    // crash image may then hold one command more: the next one of the line that was heard last.
+    ensures { LeavesItsLinesUnclosed O.contents E.contents end.now }
+{}
+
 /// Shows that a run whose database holds what a crash left of another's goes on from the world that the other left.
 pub fn a_run_begins_where_one_ended<S: Start, T: Start, O: Write, E: Write>(
     first: &End<FileFrom<S>>,
@@ -61,14 +69,15 @@ pub fn a_run_begins_where_one_stopped<S: Start, T: Start, O: Write, E: Write>(
     ensures { BeginsWhereOneStopped O.contents E.contents first.now second.now }
 {}
 
-/// Shows that a run over what a crash left of a session's database goes on from the world that the session left; and that
-/// a session does so over what a line, a script or another session left.
+/// Shows that a run over what a crash left of a session's database goes on from the world that the session left, also one
+/// whose close failed; and that a session does so over what a line, a script or another session left.
 pub fn sessions_begin_where_one_ended<S: Start, T: Start, O: Write, E: Write>(
     first: &End<FileFrom<S>>,
     second: &End<FileFrom<T>>,
 )
     // A second run over what a crash left of a first one does its work over the world that the
-    // first left, whichever of them is a session.
+    // first left, whichever of them is a session. After a session whose close failed, the world may
+    // have the command that was cut.
     ensures { SessionsBeginWhereOneEnded O.contents E.contents first.now second.now }
 {}
 

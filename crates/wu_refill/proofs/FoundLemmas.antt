@@ -26,7 +26,7 @@ use Rattle.wu_schema.specs.Tables.{HasTables}
 use Rattle.wu_schema.specs.Versions.{AnswersVersion}
 use Rattle.wu_store.proofs.SameWorld.{one_world}
 use Rattle.wu_tables.specs.Others.{HasOnlyAProject}
-use Rattle.wu_refill.specs.Loading.{FindsAlone, FindsSound, FindsTheirs, KeepsSound}
+use Rattle.wu_refill.specs.Loading.{FindsAlone, FindsSound, FindsTheirs, KeepsSoundWorld}
 
 -- the values of a sound world of the present version are such as rows are read as
 readable : (world : World) → IsSound world → IsUpToDate world → IsReadable world
@@ -64,7 +64,7 @@ module _ (any_order : SoundInAnyOrder) (db : Database) (world : World) (stands :
   present_of it refines = sym (one_world db world it stands refines).version ∙ is
 
   -- and so is kept
-  kept_of : (it : World) → Refines db it → (kept : Option World) → KeepsSound (found.World it) kept → IsSomeAnd kept (λ w. Refines db w × IsSound w)
+  kept_of : (it : World) → Refines db it → (kept : Option World) → KeepsSoundWorld (found.World it) kept → IsSomeAnd kept (λ w. Refines db w × IsSound w)
   kept_of it refines kept keeps =
       let same = keeps (sound_of it refines) (present_of it refines) (All-from_recursion MayBeKept it.imports refines.rows.imports_kept) in
       subst (λ (o : Option World). IsSomeAnd o (λ w. Refines db w × IsSound w)) (sym same) (refines, sound_of it refines)
@@ -80,7 +80,7 @@ module _ (db : Database) (world : World) (stands : Refines db world) where
   whole = subst (AreWhole 15) (sym stands.rows.workunits.same) (all_whole 15 stored_workunit (λ w. refl) world.workunits)
 
 pub finds_sound : {S : Type 0} → SoundInAnyOrder → (g : Ghosts S) (old new : Held S) (it : Found) → FindsWorld present_version g old new (Ok it) → FindsNone present_version g old new (Ok it)
-    → (r : Result (Option World) Fault) → IfOk r (KeepsSound it) → FindsSound g old new r
+    → (r : Result (Option World) Fault) → IfOk r (KeepsSoundWorld it) → FindsSound g old new r
 finds_sound any_order g old new (found.World it) finds none r keeps clean world stands sound is =
     let db = (state g old).now in
     let refines : Refines db it = finds clean stands.trees (arranged db world stands is) (whole db world stands) in

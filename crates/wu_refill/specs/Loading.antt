@@ -13,9 +13,9 @@ use Rattle.wu_schema.specs.Refines.{Refines}
 use Rattle.wu_tables.specs.Others.{HasOnlyAProject}
 
 -- If a world was found, it is sound and of the present version, and its imports may be kept, it is this one.
-abbrev pub KeepsSound : Found → Option World → Type 0
-KeepsSound (found.World world) kept = IsSound world → IsUpToDate world → All MayBeKept world.imports → kept ≡ Some world
-KeepsSound (found.Wrong wrong) kept = ⊤
+abbrev pub KeepsSoundWorld : Found → Option World → Type 0
+KeepsSoundWorld (found.World world) kept = IsSound world → IsUpToDate world → All MayBeKept world.imports → kept ≡ Some world
+KeepsSoundWorld (found.Wrong wrong) kept = ⊤
 
 -- On a clean disk, if the tables represent a sound world of the present version, a sound world is found that they
 -- represent.

@@ -2,7 +2,7 @@
 
 ghost use Rattle.std.specs.Prelude.{◌≡◌, IfErr, IfOk, IfSome};
 ghost use Rattle.wu_core.specs.declared.fault.Fault.TheVariants.{Memory};
-ghost use Rattle.wu_refill.specs.Loading.{FindsAlone, FindsSound, FindsTheirs, KeepsSound};
+ghost use Rattle.wu_refill.specs.Loading.{FindsAlone, FindsSound, FindsTheirs, KeepsSoundWorld};
 ghost use Rattle.wu_refill.specs.Refilling.{MayBeRefilled};
 ghost use Rattle.wu_schema.specs.Asking.{Asks, ServesUnlessFailed};
 ghost use Rattle.wu_schema.specs.Faults.{IsStoreFault};
@@ -21,7 +21,7 @@ use wu_tables::has_only_a_project;
 /// Returns the world that was found, if changes make it of an empty one.
 fn keep_refillable(alloc: Global, found: Found) -> Result<Option<Loaded>, Fault>
     ensures may { IfOk result (λ kept. IfSome kept MayBeRefilled) }
-    ensures kept { IfOk result (KeepsSound found) }
+    ensures kept { IfOk result (KeepsSoundWorld found) }
     ensures same { IfOk result (λ kept. IfSome kept (λ it. found ≡ Found.World it)) }
     ensures fault { IfErr result (λ fault. fault ≡ Memory) }
 {

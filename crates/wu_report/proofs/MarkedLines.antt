@@ -26,7 +26,7 @@ use Rattle.wu_core.specs.Storable.{IsHost, IsName, IsStorable, IsStoredInstance}
 use Rattle.wu_core.specs.Words.{import_kind_word, server_state_word, outcome_word, validate_state_word, assimilate_word, file_delete_word}
 use Rattle.wu_core.specs.World.{Import, World}
 use Rattle.wu_views.specs.declared.failures.HostFailures.{HostFailures}
-use Rattle.wu_views.specs.declared.lines.HostLine.{HostLine}
+use Rattle.wu_schema.specs.declared.rows.HostSum.{HostSum}
 use Rattle.wu_views.specs.declared.lines.ImportLine.{ImportLine}
 use Rattle.wu_views.specs.declared.lines.ResultLine.{ResultLine}
 use Rattle.wu_views.specs.declared.lines.Summary.{Summary}
@@ -124,7 +124,7 @@ result_whole : (r : ResultLine) → IsName r.workunit × IsHost r.host → IsWho
 result_whole r named rest =
     simp (append_assoc, begun_name r.workunit named.0, past_host r.host named.1, past_decimal, past_moment, past_server_state, past_outcome, past_validate_state, past_file_delete)
 
-host_whole : (host : HostLine) → IsName host.name → IsWhole (host_line host)
+host_whole : (host : HostSum) → IsName host.name → IsWhole (host_line host)
 host_whole host named rest = simp (append_assoc, begun_name host.name named, past_decimal)
 
 archived_whole : (row : Archived) → IsName row.name → IsWhole (archived_line row)
@@ -216,7 +216,7 @@ summary_whole s = counts_whole (counts_of s) refl (counted (codes "version") s.v
 pub view_whole : (world : World) (v : View) → HasValidNames world v → IsWhole (view_text world v)
 view_whole world view.Workunits named = whole_flat_map (λ (w : WorkunitLine). IsName w.name) workunit_line workunit_whole (workunit_lines world) named
 view_whole world view.Results named = whole_flat_map (λ (r : ResultLine). IsName r.workunit × IsHost r.host) result_line result_whole (result_lines world) named
-view_whole world view.Hosts named = whole_flat_map (λ (host : HostLine). IsName host.name) host_line host_whole (host_lines world) named
+view_whole world view.Hosts named = whole_flat_map (λ (host : HostSum). IsName host.name) host_line host_whole (host_lines world) named
 view_whole world view.Archive named = whole_flat_map (λ (row : Archived). IsName row.name) archived_line archived_whole (archived_lines world) named
 view_whole world view.Summary named = summary_whole (summary_of world)
 view_whole world view.Imports named = whole_flat_map (λ (it : ImportLine). IsName it.name) import_line import_whole (import_lines world) named
@@ -264,7 +264,7 @@ imports_named world shown =
 pub names_valid : (world : World) (v : View) → CanBeShown world v → HasValidNames world v
 names_valid world view.Workunits shown = All-map (λ (w : WorkunitLine). IsName w.name) line_of world.workunits (λ k d within. (shown k d within).row.name)
 names_valid world view.Results shown = results_named world.workunits shown
-names_valid world view.Hosts shown = All-map (λ (host : HostLine). IsName host.name) (host_line_of world.grants) (hosts_of world.grants) shown
+names_valid world view.Hosts shown = All-map (λ (host : HostSum). IsName host.name) (host_line_of world.grants) (hosts_of world.grants) shown
 names_valid world view.Archive shown = λ k d within. (shown k d within).name
 names_valid world (view.Import name) shown = All-filter (λ (it : ImportLine). bytes_eq it.name name) (λ it. IsName it.name) (import_lines world) (imports_named world shown)
 names_valid world (view.Status now) shown = worst_have IsName world (hosts_named world.workunits shown)

@@ -6,7 +6,7 @@ use Rattle.wu_core.specs.declared.workunit.HostClass.{HostClass}
 use Rattle.wu_core.specs.Storable.{IsHost, IsName}
 use Rattle.wu_core.specs.World.{World}
 use Rattle.wu_views.specs.declared.failures.HostFailures.{HostFailures}
-use Rattle.wu_views.specs.declared.lines.HostLine.{HostLine}
+use Rattle.wu_schema.specs.declared.rows.HostSum.{HostSum}
 use Rattle.wu_views.specs.declared.lines.ImportLine.{ImportLine}
 use Rattle.wu_views.specs.declared.lines.ResultLine.{ResultLine}
 use Rattle.wu_views.specs.declared.lines.WorkunitLine.{WorkunitLine}
@@ -29,7 +29,7 @@ NoLineBeginsWith byte text = All (λ line. slice_get line 0 ≢ Some byte) (line
 abbrev pub HasValidNames : World → View → Type 0
 HasValidNames world view.Workunits = All (λ (line : WorkunitLine). IsName line.name) (workunit_lines world)
 HasValidNames world view.Results = All (λ (line : ResultLine). IsName line.workunit × IsHost line.host) (result_lines world)
-HasValidNames world view.Hosts = All (λ (line : HostLine). IsName line.name) (host_lines world)
+HasValidNames world view.Hosts = All (λ (line : HostSum). IsName line.name) (host_lines world)
 HasValidNames world view.Archive = All (λ (row : Archived). IsName row.name) (archived_lines world)
 HasValidNames world view.Classes = All (λ (it : HostClass). IsName it.host) (class_lines world)
 HasValidNames world view.Imports = All (λ (line : ImportLine). IsName line.name) (import_lines world)

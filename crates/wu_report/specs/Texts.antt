@@ -13,7 +13,7 @@ use Rattle.wu_core.specs.Mask.{error_mask_code}
 use Rattle.wu_core.specs.Words.{import_kind_word, server_state_word, outcome_word, validate_state_word, assimilate_word, file_delete_word}
 use Rattle.wu_core.specs.World.{World}
 use Rattle.wu_views.specs.declared.failures.HostFailures.{HostFailures}
-use Rattle.wu_views.specs.declared.lines.HostLine.{HostLine}
+use Rattle.wu_schema.specs.declared.rows.HostSum.{HostSum}
 use Rattle.wu_views.specs.declared.lines.ImportLine.{ImportLine}
 use Rattle.wu_views.specs.declared.lines.ResultLine.{ResultLine}
 use Rattle.wu_views.specs.declared.lines.Summary.{Summary}
@@ -100,7 +100,7 @@ result_line r =
     ++ codes " output=" ++ decimal r.output ++ line_end
 
 -- The line of a host.
-abbrev pub host_line : HostLine → List ℕ
+abbrev pub host_line : HostSum → List ℕ
 host_line host = host.name ++ codes " total=" ++ decimal host.total ++ codes " grants=" ++ decimal host.grants ++ line_end
 
 -- The bytes in hex, or '-' without a byte.

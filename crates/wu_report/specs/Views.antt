@@ -8,9 +8,9 @@ use Rattle.wu_core.specs.declared.fault.Fault.TheVariants.{Ended, NotAProject, O
 use Rattle.wu_core.specs.Classes.{AreClassed}
 use Rattle.wu_core.specs.World.{World}
 use Rattle.wu_views.specs.Lines.{AreHostsNamed, AreImportsStorable}
-use Rattle.wu_store.specs.Loading.{IsStoreFault}
 use Rattle.wu_core.specs.Storable.{AreStorable, IsArchiveStorable}
 use Rattle.wu_store.specs.StandsFor.{KnowsClasses}
+use Rattle.wu_views.specs.Walking.{IsWalkFault}
 use Rattle.wu_views.specs.Summaries.{CountsCredit, CountsStates, granted_in, IsCountable, results_in}
 use Rattle.wu_views.specs.declared.lines.Summary.{Summary}
 use Rattle.wu_passes.specs.Standing.{ShowsWorld}
@@ -21,10 +21,6 @@ use Rattle.wu_machine.specs.declared.view.View.{View}
 use Rattle.wu_machine.specs.declared.view.View.TheVariants as view
 use Rattle.wu_report.specs.Texts.{summary_lines, view_text}
 use Rattle.wu_report.specs.Writing.{IsCut, WritesTo}
-
--- The fault is that the text could not be written, or one of the store.
-abbrev pub IsViewFault : Fault → Type 0
-IsViewFault fault = (fault ≡ Output) ⊎ IsStoreFault fault
 
 -- If the fault is `Output`, the text is cut: a text that went out whole is never reported as failed.
 abbrev pub CutsOutput : {T : Type 0} → Option (List ℕ) → Option (List ℕ) → List ℕ → Result T Fault → Type 0
@@ -74,7 +70,7 @@ ShowsUnrefused old new view result = UnrefusedWhere (λ world. CanBeShown world 
 
 -- Over the present version, the only faults are `Output` and those of the store.
 abbrev pub ShowsOrFails : {S T : Type 0} {store : Ghosts S} → Project S store → Result T Fault → Type 0
-ShowsOrFails old result = IsSessionOpen old → IsPresentSession old → IfErr result IsViewFault
+ShowsOrFails old result = IsSessionOpen old → IsPresentSession old → IfErr result IsWalkFault
 
 -- The view is refused with this fault, and neither the project nor the output is touched.
 abbrev pub RefusesWith : {S W T : Type 0} {store : Ghosts S} → (W → Option (List ℕ)) → Project S store → Project S store → W → W → Result T Fault → Fault → Type 0

@@ -9,7 +9,8 @@ use crate::output::{Piece, Printed, write_pieces};
 use std::io::Write;
 use wu_core::{Archived, Bytes, Deadline, Fault, HostClass, Name};
 use wu_rules::Pass;
-use wu_views::{HostFailures, HostLine, ImportLine, ResultLine, StatusLine, Summary, WorkunitLine};
+use wu_schema::rows::HostSum;
+use wu_views::{HostFailures, ImportLine, ResultLine, StatusLine, Summary, WorkunitLine};
 
 impl Printed for WorkunitLine {
     ghost use Rattle.wu_report.specs.Texts.{workunit_line};
@@ -104,7 +105,7 @@ impl Printed for ResultLine {
     }
 }
 
-impl Printed for HostLine {
+impl Printed for HostSum {
     ghost use Rattle.wu_report.specs.Texts.{host_line};
 
     ghost text = { host_line };

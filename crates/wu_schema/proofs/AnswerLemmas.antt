@@ -1,7 +1,7 @@
 -- Which rows a query on one table answers.
-use Rattle.wu_schema.proofs.Words.{Answers, Name, Ok, Parsed, QueriesRow, Query, Shown, State, Database, IsAnswerAs, IsPermutation, IsPermutation-map, List, Null, Output, Row, Term, [], ap, cond, eval_all, false, filter, flat_map, holds, if◌then◌else◌, list_all, map, nat_le, output, overlay, refl, subst, sym, true, ℕ, ◌++◌, ◌^◌, ◌∙◌, ◌∷◌, ◌≡◌}
+use Rattle.wu_schema.proofs.Words.{Answers, Name, Parsed, Query, Shown, State, Database, IsAnswerAs, IsPermutation, IsPermutation-map, List, Null, Output, Row, Term, [], ap, cond, eval_all, false, filter, flat_map, holds, if◌then◌else◌, list_all, map, nat_le, output, overlay, refl, subst, sym, true, ℕ, ◌++◌, ◌^◌, ◌∙◌, ◌∷◌, ◌≡◌}
 use Rattle.sqlite.specs.Command.TheVariants.{Select}
-use Rattle.sqlite.proofs.Callers.{reads_as, first_as}
+use Rattle.sqlite.proofs.Callers.{reads_as}
 use Rattle.wu_schema.proofs.QueryLemmas.{plain_query, alone}
 use Rattle.wu_schema.proofs.SelectLemmas.{CompilesTo}
 

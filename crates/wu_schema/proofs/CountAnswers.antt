@@ -1,19 +1,15 @@
 -- What a SELECT answers that counts the rows of a table.
-use Rattle.wu_schema.proofs.Words.{AllByRecursion, Answers, Database, Has, HasTable, Int, IsAnswerAs, IsPermutation, IsPermutation-map, List, Name, None, Null, Option, Output, Row, Shown, Some, State, Table, Term, Value, [], all_from, all_has, ap, column, cond, eval_all, false, filter, flat_map, get_or, has_mapped, holds, if◌then◌else◌, length, length-map, length_permutation, list_all, map, map-map, nat_le, one_permutation, output, overlay, place_of, refl, subst, sym, true, ℕ, ℤ, ◌++◌, ◌^◌, ◌∙◌, ◌∷◌, ◌≡◌, col}
+use Rattle.wu_schema.proofs.Words.{Answers, Database, HasTable, IsAnswerAs, IsPermutation, IsPermutation-map, List, Name, Null, Output, Row, Shown, Some, State, Table, Term, [], ap, cond, eval_all, false, filter, flat_map, holds, if◌then◌else◌, length, length-map, length_permutation, list_all, map, nat_le, one_permutation, output, overlay, refl, subst, sym, true, ℕ, ℤ, ◌++◌, ◌^◌, ◌∙◌, ◌∷◌, ◌≡◌, col}
 use Rattle.std.specs.List.{AllZip}
-use Rattle.std.specs.Prelude.{◌↔◌, count_by, sum}
-use Rattle.std.specs.Ordering.{on}
-use Rattle.std.proofs.lemmas.List.Sums.{sum-map}
-use Rattle.sqlite_value.specs.Keys.{collated_cmp}
+use Rattle.std.specs.Prelude.{◌↔◌}
 use Rattle.wu_schema.proofs.SelectLemmas.{how, meets}
 use Rattle.sqlite_sql.specs.Aggregate.{count}
-use Rattle.sqlite_sql.specs.Group.{IsGrouping, IsPartition, IsSummary, Summarizes, members, value_over}
+use Rattle.sqlite_sql.specs.Group.{IsGrouping, IsSummary, Summarizes, value_over}
 use Rattle.sqlite_sql.specs.Term.{Env}
 use Rattle.sqlite_draft.specs.Query.{aggregate_of, grouping_of}
 use Rattle.wu_schema.proofs.CountTexts.{CountFits, Counted, count_grouping, count_query, count_rows, counted_compiles}
 use Rattle.wu_schema.proofs.QueryLemmas.{alone}
 use Rattle.wu_schema.proofs.AnswerLemmas.{meeting, shown_answers}
-use Rattle.wu_schema.proofs.RowLemmas.{map_same}
 use Rattle.wu_schema.specs.Counting.{CountsAll}
 
 -- a row of the table, after the parameters

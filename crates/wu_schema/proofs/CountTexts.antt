@@ -1,5 +1,5 @@
 -- What a SELECT compiles to that counts the rows of a table.
-use Rattle.wu_schema.proofs.Words.{Carried, Core, Draft, Expr, Expr-F, HasTable, Inner, Int, List, Name, None, Null, Ok, Option, Parsed, Query, Row, ◌&&◌, Schema, Select, Some, Term, [], accepts_program, arith, codes, col, false, length, lit, lower_to, map, named, negsuc, nothing, pipeline, place_of, planned, pos, program, query, query_to, refl, roll-Core, roll-Expr, roll-Select, row_classes, simple, true, ℕ, ◌-◌, ◌<◌, ◌∷◌, ◌≡◌, eq-eqb, first, declared}
+use Rattle.wu_schema.proofs.Words.{Carried, Core, Draft, Expr, Expr-F, HasTable, Inner, Int, List, Name, None, Null, Ok, Option, Parsed, Query, Row, ◌&&◌, Schema, Select, Some, Term, [], accepts_program, arith, codes, col, false, length, lit, lower_to, map, named, negsuc, nothing, pipeline, planned, pos, program, query, query_to, refl, roll-Core, roll-Expr, roll-Select, row_classes, simple, true, ℕ, ◌-◌, ◌<◌, ◌∷◌, ◌≡◌, first}
 use Rattle.std.proofs.lemmas.Bool.{lt-ltb}
 use Rattle.sqlite_schema.specs.declared.schema.Table.{Table}
 use Rattle.sqlite_ast.specs.declared.Core.{out-Core}
@@ -21,9 +21,9 @@ use Rattle.sqlite_sql.specs.declared.aggregate.AggregateOp.TheVariants.{CountRow
 use Rattle.sqlite_typing.specs.Types.{accepts_after, is_count}
 use Rattle.sqlite_value.specs.declared.keys.Collation.{Collation}
 use Rattle.sqlite_value.specs.declared.keys.Collation.TheVariants.{Binary}
-use Rattle.wu_schema.proofs.ExprLemmas.{column, column_lowers, column_lowers_with, lower_step, scope, so_far, so_far_with}
+use Rattle.wu_schema.proofs.ExprLemmas.{column, lower_step, scope, so_far, so_far_with}
 use Rattle.wu_schema.proofs.QueryLemmas.{alone, from_table, one, plain_query, query_step, viewing_is}
-use Rattle.wu_schema.proofs.SelectLemmas.{AreStrict, CompilesTo, FitsUnder, IsFound, Test, meets, places, where_cost, where_last, where_lowers_with, where_of, alone_is, compiles_to, found_first, heading_is, how, name_at, output_at, the}
+use Rattle.wu_schema.proofs.SelectLemmas.{AreStrict, CompilesTo, FitsUnder, IsFound, Test, meets, places, where_cost, where_lowers_with, where_of, compiles_to, how, the}
 
 -- count(*), and its column of the answer
 abbrev pub count_star : Expr

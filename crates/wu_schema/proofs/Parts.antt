@@ -6,7 +6,7 @@ use Rattle.wu_core.specs.World.{MayBeKept}
 use Rattle.wu_core.specs.declared.workunit.HostClass.{HostClass}
 use Rattle.wu_schema.proofs.Words.{AllByRecursion, IsPermutation-refl, IsTable, Less, Workunit, arith, class_cells, column, drop, false_from_ne_true, host_class_at, length_permutation, nat_le, number, rowid, stored_class, value_cmp, workunit_class_at, ◌⊎◌, Bool, Database, Enforced, Has, HasNamed, HasTables, HoldsAll, Import, IsAscending, IsCalm, IsDatabase, IsShaped, List, ListsAll, None, Option, OwnsTree, ProjectTrees, Reference, Row, Schema, Some, Refines, Table, World, [], ap, archived_at, bytes_eq, bytes_eq-Decides, cases_Bool, codes, enumerate_from, false, find, flat_map, grant_at, host_at, hosts_of, if◌then◌else◌, import_at, import_cells, inl, inr, instances_of, is_import, is_some, map, project_at, refl, result_at, stored_archived, stored_grant, stored_project, stored_workunit, subst, sym, true, workunit_at, ℕ, ⊤, ◌==◌, ◌||◌, ◌∙◌, ◌∷◌, ◌≡◌, ◌≢◌}
 use Rattle.sqlite_trees.specs.declared.store.Shape.TheVariants as shape
-use Rattle.wu_schema.specs.Refines.{HasRows, IsClassless, host_of}
+use Rattle.wu_schema.specs.Refines.{HasRows, LacksClasses, host_of}
 use Rattle.wu_schema.specs.Tables.{IsClassedVersion}
 use Rattle.wu_schema.proofs.QuietLemmas.{same_some}
 use Rattle.wu_schema.specs.Calm.{IsSteady}
@@ -113,7 +113,7 @@ pub none_in_order : (classes : List HostClass) → classes ≡ [] → AreInOrder
 none_in_order classes none = subst AreInOrder (sym none) (λ i j d low high. absurd (omega (arith, high)))
 
 -- and the other way round
-pub rows_stand : (db : Database) (t : ProjectTrees) (world : World) → ((p : Part) → IsIn p world.version → Holds p (db.trees (tree_in t p)) world) → (¬ IsClassedVersion world.version → IsClassless world) → HasRows db.trees t world
+pub rows_stand : (db : Database) (t : ProjectTrees) (world : World) → ((p : Part) → IsIn p world.version → Holds p (db.trees (tree_in t p)) world) → (¬ IsClassedVersion world.version → LacksClasses world) → HasRows db.trees t world
 rows_stand db t world holds classless = record {
   project = holds Project tt;
   workunits = holds Workunits tt;
@@ -131,7 +131,7 @@ rows_stand db t world holds classless = record {
 
 -- over the same schema
 pub all_stand : (old new : Database) (world after : World) (s : Refines old world) → new.schema ≡ old.schema → after.version ≡ world.version
-    → ((p : Part) → IsIn p after.version → Holds p (new.trees (tree_in s.trees p)) after) → (¬ IsClassedVersion after.version → IsClassless after) → IsDatabase new → Refines new after
+    → ((p : Part) → IsIn p after.version → Holds p (new.trees (tree_in s.trees p)) after) → (¬ IsClassedVersion after.version → LacksClasses after) → IsDatabase new → Refines new after
 all_stand old new world after s same version holds classless sound = record {
   trees = s.trees;
   tables = subst (λ v. HasTables v new.schema s.trees) (sym version) (subst (λ (x : Schema). HasTables world.version x s.trees) (sym same) s.tables);
@@ -299,9 +299,9 @@ no_hosts : (classes : List HostClass) → HoldsAll [] (map class_cells classes) 
 no_hosts [] h = refl
 no_hosts (it ∷ more) h = let few = length_permutation (map class_cells (it ∷ more)) [] h.same in absurd (cc)
 
-module _ (old : Database) (world after : World) (s : Refines old world) (none : IsClassless world) where
+module _ (old : Database) (world after : World) (s : Refines old world) (none : LacksClasses world) where
   -- so a world that has the same rows of classes has none
-  classless_too : ((rows : List Row) → Holds HostClasses rows world → Holds HostClasses rows after) → ((rows : List Row) → Holds WorkClasses rows world → Holds WorkClasses rows after) → IsClassless after
+  classless_too : ((rows : List Row) → Holds HostClasses rows world → Holds HostClasses rows after) → ((rows : List Row) → Holds WorkClasses rows world → Holds WorkClasses rows after) → LacksClasses after
   classless_too hosts works =
       let empty : HoldsAll [] (map class_cells world.classes) = subst (λ (cs : List HostClass). HoldsAll [] (map class_cells cs)) (sym none.hosts) (record { shaped = (tt, tt); same = IsPermutation-refl [] }) in
       let up = classes_rise world.workunits (subst IsTable s.rows.workunits.same s.rows.workunits.shaped.0) in
@@ -317,7 +317,7 @@ module _ (old new : Database) (world after : World) (s : Refines old world) wher
   -- rows of the new world, which has no classes either before their version
   pub frame_in : (touched : Part → Bool) → new.schema ≡ old.schema → after.version ≡ world.version → Keeps world.version s.trees old new touched
       → ((q : Part) → touched q ≡ false → (rows : List Row) → Holds q rows world → Holds q rows after)
-      → ((q : Part) → IsIn q world.version → touched q ≡ true → Holds q (new.trees (tree_in s.trees q)) after) → (¬ IsClassedVersion world.version → IsClassless world → IsClassless after) → IsDatabase new → Refines new after
+      → ((q : Part) → IsIn q world.version → touched q ≡ true → Holds q (new.trees (tree_in s.trees q)) after) → (¬ IsClassedVersion world.version → LacksClasses world → LacksClasses after) → IsDatabase new → Refines new after
   frame_in touched same version keeps carries fits classless sound =
       all_stand old new world after s same version (λ q is_in.
       let was = subst (IsIn q) version is_in in

@@ -1,5 +1,5 @@
 -- What a SELECT does to a connection, whatever the schema.
-use Rattle.wu_schema.proofs.Words.{Bool, Checked, Command, CommitsShowing, CompileError, Compiled, Err, Error, FailsToQuery, FailsToShow, Ghosts, HasCleanDisk, Held, IfErr, IfOk, IsBack, IsSome, IsUnchanged, List, Name, NoSuchTable, None, Ok, OnOk, Parsed, QueriesRow, Reads, Result, Row, Schema, Shown, State, Survives, Vec, [], and_then, ap, cases_Bool, compiled, false, if_select, if◌then◌else◌, inl, inr, is_select, meaning, planned, reads_listing, returning, state, subst, sym, true, understood, with_command, ℕ, ◌≡◌}
+use Rattle.wu_schema.proofs.Words.{Bool, Checked, Command, CommitsShowing, CompileError, Compiled, Err, Error, FailsToQuery, FailsToShow, Ghosts, HasCleanDisk, Held, IfErr, IfOk, IsBack, IsSome, IsUnchanged, List, Name, NoSuchTable, None, Ok, OnOk, Parsed, AsksOnly, Result, Row, Schema, Shown, State, Survives, Vec, [], and_then, ap, cases_Bool, compiled, false, if_select, if◌then◌else◌, inl, inr, is_select, meaning, planned, reads_listing, returning, state, subst, sym, true, understood, with_command, ℕ, ◌≡◌}
 pub use Rattle.wu_schema.specs.Asking.{IsSelect}
 use Rattle.sqlite.specs.Clock.{timed}
 use Rattle.sqlite.specs.State.{ShowsRows}
@@ -75,7 +75,7 @@ if_err (Err e) P Q f h = f e h
 
 -- what a SELECT of all rows does to the connection
 pub all_read : {S A : Type 0} (g : Ghosts S) (text : List ℕ) → IsSelect text → (params : Row) (old new : Held S) → (old.in_transaction ≡ false → new.in_transaction ≡ false) → Survives (state g old) (state g new) (CommitsShowing text params (state g old)) → (r : Result (Vec Row A) Error)
-    → (HasCleanDisk (state g new) → IfOk r (λ rows. Shown text params (state g old) (state g new) rows.items)) → (HasCleanDisk (state g new) → IfErr r (FailsToQuery text params (state g old) (state g new))) → Reads g old new r
+    → (HasCleanDisk (state g new) → IfOk r (λ rows. Shown text params (state g old) (state g new) rows.items)) → (HasCleanDisk (state g new) → IfErr r (FailsToQuery text params (state g old) (state g new))) → AsksOnly g old new r
 all_read g text it params old new mode survives r ok err = record {
   mode = mode;
   unchanged = λ clean. on_ok r _ _ (λ rows h. shown_unchanged text it params (state g old) (state g new) rows.items h) (ok clean);

@@ -1,14 +1,15 @@
 -- How columns and rows read as values, step by step.
 use Rattle.wu_schema.proofs.Words.{IsErrAnd, Blob, Err, Fault, IsOrWantsMemory, IfErr, IfOk, ImportKind, Instance, Int, List, None, NotAProject, Null, Ok, Option, Result, Row, Some, Text, Value, Workunit, [], add-one, ap, arith, column, drop, get_or, inl, inr, instance_row, last_skip, length, length-map, map, map-append, number, number_or_null, pos, refl, subst, suc, sym, take, text_or_null, verdict_digits, workunit_row, zero, ℕ, ⊤, ◌++◌, ◌+◌, ◌-◌, ◌<◌, ◌^◌, ◌∙◌, ◌∷◌, ◌≡◌, ◌≢◌, ◌≤◌, ◌⊎◌}
 use Rattle.wu_core.specs.Formed.{IsInstance}
-use Rattle.wu_core.specs.Storable.{IsStoredInstance, AreVerdicts, IsHost, IsInput, IsName, IsPlace, IsStoredWorkunit, IsOutput, IsStoredArchived}
+use Rattle.wu_core.specs.Storable.{IsStoredInstance, AreVerdicts, IsClass, IsDeadline, IsMoment, IsHost, IsInput, IsName, IsPlace, IsStoredWorkunit, IsOutput, IsStoredArchived}
 use Rattle.wu_core.specs.declared.mask.ErrorMask.{ErrorMask}
 use Rattle.wu_core.specs.declared.workunit.Archived.{Archived}
-use Rattle.wu_schema.specs.Stored.{archived_cells}
+use Rattle.wu_schema.specs.Stored.{archived_cells, class_cells}
 use Rattle.std.specs.Option.{ok_or}
 use Rattle.std.specs.Prelude.{MatchOption}
 use Rattle.wu_core.specs.Codes.{Decodes}
 use Rattle.std.proofs.lemmas.List.{take_more, get_or-map}
+use Rattle.std.proofs.lemmas.List.FromFn.{get_or-map-range_with_len}
 use Rattle.std.specs.List.{range_with_len}
 use Rattle.wu_core.specs.declared.fault.Fault.TheVariants.{Memory}
 use Rattle.wu_core.specs.Parameters.{Parameters, IsParameters}
@@ -23,7 +24,7 @@ use Rattle.wu_core.specs.declared.states.ServerState.{ServerState}
 use Rattle.wu_core.specs.declared.states.ValidateState.{ValidateState}
 use Rattle.wu_schema.specs.Stored.{parameter_cells}
 use Rattle.wu_schema.specs.Restoring.{Restores}
-use Rattle.wu_schema.specs.Reading.{bare_instance_row, IsBareInstance, IsStoredImport, file_delete_cell, outcome_cell, server_state_cell, stored_import_row, validate_state_cell, verdicts_cell, moment_cells, state_cells, columns, progress_cells, IsProgress, mask_cell, HasMoments}
+use Rattle.wu_schema.specs.Reading.{bare_instance_row, IsBareInstance, IsStoredImport, file_delete_cell, outcome_cell, server_state_cell, stored_import_row, validate_state_cell, verdicts_cell, moment_cells, state_cells, columns, progress_cells, IsProgress, mask_cell, HasMoments, host_row, IsStoredHost, IsStoredHostClass}
 
 -- a value that can't be read is none that is stored so
 pub unread : {T C : Type 0} (stored_as : T → C) (IsValue : T → Type 0) (stored : C) (fault : Fault)
@@ -83,6 +84,28 @@ as_columns (v ∷ row) = ap (λ rest. v ∷ rest) (shifted v row 0 (length row) 
 
 pub whole_row : (n : ℕ) (row : Row) → length row ≡ n → columns row 0 n ≡ row
 whole_row n row long = subst (λ k. map (column row) (range_with_len 0 k) ≡ row) long (as_columns row)
+
+-- some of some columns are columns of the row
+pub column_of : (row : Row) (from count at : ℕ) → at < count → column (columns row from count) at ≡ column row (from + at)
+column_of row from count at low = get_or-map-range_with_len (column row) from count at (from + at) Null low refl
+
+pub columns_of : (row : Row) (from count at few : ℕ) → at + few ≤ count → columns (columns row from count) at few ≡ columns row (from + at) few
+columns_of row from count at zero within = refl
+columns_of row from count at (suc few) within =
+    let here = column_of row from count at (omega (arith, within)) in
+    let rest = columns_of row from count (at + 1) few (omega (arith, within)) in
+    let next : from + (at + 1) ≡ (from + at) + 1 = omega arith in
+    (λ i. here i ∷ (rest ∙ ap (λ n. columns row n few) next) i)
+
+module _ {T : Type 0} {stored_as : T → Value} {IsValue : T → Type 0} {r : Result T Fault} where
+  -- what a column of the row reads as, it reads as among them
+  pub read_of : (row : Row) (from count at : ℕ) → at < count → Restores stored_as IsValue (column row (from + at)) r → Restores stored_as IsValue (column (columns row from count) at) r
+  read_of row from count at low = subst (λ v. Restores stored_as IsValue v r) (sym (column_of row from count at low))
+
+module _ {T : Type 0} {stored_as : T → Row} {IsValue : T → Type 0} {r : Result T Fault} where
+  -- and so some columns
+  pub read_part : (row : Row) (from count at few : ℕ) → at + few ≤ count → Restores stored_as IsValue (columns row (from + at) few) r → Restores stored_as IsValue (columns (columns row from count) at few) r
+  read_part row from count at few within = subst (λ cs. Restores stored_as IsValue cs r) (sym (columns_of row from count at few within))
 
 -- the progress of a workunit
 abbrev progress_of : Workunit → Progress
@@ -217,6 +240,16 @@ states_read row a b d e first second third fourth = read_as ((λ i. first.value.
         let v = ok_is e s.file_delete (fourth.found s.file_delete tt (ap (λ r. column r 3) same)) in
         (λ i. record { server_state = p i; outcome = q i; validate_state = u i; file_delete = v i })
 
+-- and three those of these moments
+pub moments_read : (row : Row) (a : Option ℕ) (b : Option ℕ) (d : Option ℕ) → Restores number_or_null IsMoment (column row 0) (Ok a) → Restores number_or_null IsDeadline (column row 1) (Ok b) → Restores number_or_null IsMoment (column row 2) (Ok d)
+    → Restores moment_cells HasMoments (columns row 0 3) (Ok (record { sent_at = a; deadline = b; received_at = d }))
+moments_read row a b d first second third =
+    read_as ((λ i. first.value.0 i ∷ second.value.0 i ∷ third.value.0 i ∷ []), record { sent_at = first.value.1; deadline = second.value.1; received_at = third.value.1 }) (λ m is same.
+    let p = ok_is a m.sent_at (first.found m.sent_at is.sent_at (ap (λ r. column r 0) same)) in
+    let q = ok_is b m.deadline (second.found m.deadline is.deadline (ap (λ r. column r 1) same)) in
+    let u = ok_is d m.received_at (third.found m.received_at is.received_at (ap (λ r. column r 2) same)) in
+    (λ i. record { sent_at = p i; deadline = q i; received_at = u i }))
+
 joined_three : (b : Value) (ps qs rs ts : Row) (d : Value) → ps ≡ qs → b ≡ d → rs ≡ ts → ps ++ (b ∷ rs) ≡ qs ++ (d ∷ ts)
 joined_three b ps qs rs ts d first second third = rw (first, second, third) refl
 
@@ -283,6 +316,27 @@ module _ (row : Row) where
           let a = ok_is i (with_output j []) (instance_is.found (with_output j []) (is_bare j is) (ap (λ r. columns r 0 8) same)) in
           let b = ok_is output j.output (output_is.found j.output is.values.output (ap (λ r. column r 8) same)) in
           (λ k. with_output (a k) (b k))
+
+-- ---- hosts
+
+-- a row whose columns read as these is that of this host's sum alone
+module _ (row : Row) (name : List ℕ) (total grants : ℕ) where
+  pub host_read : length row ≡ 3 → Restores Text IsName (column row 0) (Ok name) → Restores number (λ _. ⊤) (column row 1) (Ok total) → Restores number (λ _. ⊤) (column row 2) (Ok grants) → Restores host_row IsStoredHost row (Ok (record { name = name; total = total; grants = grants }))
+  host_read long name_is total_is grants_are =
+      read_as (sym (whole_row 3 row long) ∙ (λ i. name_is.value.0 i ∷ total_is.value.0 i ∷ grants_are.value.0 i ∷ []), name_is.value.1) (λ h is same.
+      let a = ok_is name h.name (name_is.found h.name is (ap (λ r. column r 0) same)) in
+      let b = ok_is total h.total (total_is.found h.total tt (ap (λ r. column r 1) same)) in
+      let d = ok_is grants h.grants (grants_are.found h.grants tt (ap (λ r. column r 2) same)) in
+      (λ i. record { name = a i; total = b i; grants = d i }))
+
+-- and one with a class is that of this host and class
+module _ (row : Row) (host : List ℕ) (class : ℕ) where
+  pub host_class_read : length row ≡ 2 → Restores Text IsName (column row 0) (Ok host) → Restores number IsClass (column row 1) (Ok class) → Restores class_cells IsStoredHostClass row (Ok (record { host = host; class = class }))
+  host_class_read long host_is class_is =
+      read_as (sym (whole_row 2 row long) ∙ (λ i. host_is.value.0 i ∷ class_is.value.0 i ∷ []), record { host = host_is.value.1; class = class_is.value.1 }) (λ it is same.
+      let a = ok_is host it.host (host_is.found it.host is.host (ap (λ r. column r 0) same)) in
+      let b = ok_is class it.class (class_is.found it.class is.class (ap (λ r. column r 1) same)) in
+      (λ i. record { host = a i; class = b i }))
 
 -- ---- an archived workunit
 

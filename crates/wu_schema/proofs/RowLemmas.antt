@@ -1,5 +1,5 @@
 -- Rows with rowids, and tables that refer to nothing.
-use Rattle.wu_schema.proofs.Words.{Blob, Bool, Enforced, Has, Int, IsChildless, IsTrue, List, Null, OwnsTree, Real, Row, Schema, Table, Text, Value, [], ap, arith, cond, false, filter, inl, inr, is_int, length, map, refl, true, ℤ, ◌&&◌, ◌∙◌, ◌∷◌, ◌≡◌}
+use Rattle.wu_schema.proofs.Words.{Bool, Enforced, Has, Int, IsChildless, IsTrue, List, OwnsTree, Row, Schema, Table, Value, [], ap, arith, cond, false, filter, inl, inr, is_int, length, map, refl, true, ℤ, ◌&&◌, ◌∙◌, ◌∷◌, ◌≡◌}
 
 pub filter_same : {X : Type 0} (p q : X → Bool) (xs : List X) → ((x : X) → Has xs x → p x ≡ q x) → filter p xs ≡ filter q xs
 filter_same p q [] same = refl

@@ -1,5 +1,5 @@
 -- What each change keeps of the world that a database stands for.
-use Rattle.wu_schema.proofs.Words.{Bool, Database, Enforced, Has, HasNamed, HasTables, HoldsAll, IsCalm, IsDatabase, IsPermutation, IsPermutation-cons, IsPermutation-map, IsPermutation-trans, IsShaped, IsShaped-filter, List, ListsAll, OwnsTree, ParentKey, ProjectTrees, PutsOne, Reference, RefersOnlyTo, Row, Schema, Some, Refines, Table, Trees, Workunit, World, [], all_has, ap, ap₂, arith, bytes_eq, bytes_eq-Decides, codes, cond, drop, false, false_from_ne_true, filter, filter-map, find, inl, inr, instances_of, is_taken, list_any, map, not, parent_key, pipeline, position_from, put_row, refl, same_name, slice_get, some_from, subst, suc, sym, true, workunit_at, ℕ, ◌++◌, ◌+◌, ◌-◌, ◌==◌, ◌∙◌, ◌∷◌, ◌≡◌, ◌≢◌, ◌≤◌}
+use Rattle.wu_schema.proofs.Words.{Bool, Database, Enforced, Has, HasNamed, HasTables, HoldsAll, IsCalm, IsDatabase, IsPermutation, IsPermutation-cons, IsPermutation-map, IsPermutation-trans, IsShaped, IsShaped-filter, List, ListsAll, OwnsTree, ParentKey, ProjectTrees, PutsOne, Reference, RefersOnlyTo, Row, Schema, Some, Table, Trees, Workunit, [], all_has, ap, ap₂, arith, bytes_eq, bytes_eq-Decides, codes, cond, drop, false, false_from_ne_true, filter, filter-map, find, inl, inr, instances_of, is_taken, list_any, map, not, parent_key, pipeline, position_from, put_row, refl, same_name, slice_get, some_from, subst, suc, sym, true, workunit_at, ℕ, ◌++◌, ◌+◌, ◌-◌, ◌==◌, ◌∙◌, ◌∷◌, ◌≡◌, ◌≢◌, ◌≤◌}
 use Rattle.std.proofs.lemmas.List.Sorted.{IsPermutation-to_front}
 use Rattle.sqlite_trees.specs.declared.store.Shape.TheVariants as shape
 use Rattle.sqlite_rules.proofs.ListLemmas.{has_got}

@@ -1,5 +1,5 @@
 -- Which errors a SELECT may answer, where it compiles and its parameters fit.
-use Rattle.wu_schema.proofs.Words.{Compiled, Error, FailsToQuery, FailsToShow, HasTable, IsFailure, IsNotRun, IsSome, List, Name, None, Ok, Option, Parsed, Query, RefusesQuery, Result, Row, State, StoreError, Term, Trees, [], accepts_program, append-nil, arith, fault_of, inl, inr, length, refl, store_error, subst, sym, true, with_command, ℕ, ◌∙◌, ◌∷◌, ◌≡◌, ◌≤◌}
+use Rattle.wu_schema.proofs.Words.{Compiled, Error, FailsToQuery, FailsToShow, HasTable, IsFailure, IsNotRun, IsSome, List, Name, None, Ok, Parsed, Query, RefusesQuery, Result, Row, State, StoreError, Term, Trees, [], accepts_program, append-nil, arith, fault_of, inl, inr, length, refl, store_error, subst, sym, true, with_command, ℕ, ◌∙◌, ◌∷◌, ◌≡◌, ◌≤◌}
 use Rattle.sqlite.specs.Program.{ProgramOverflows}
 use Rattle.sqlite.specs.Command.TheVariants.{Select}
 use Rattle.sqlite_trees.specs.declared.error.StoreError.TheVariants as kind

@@ -116,7 +116,7 @@ pub use Rattle.wu_core.specs.declared.workunit.Archived.{Archived}
 pub use Rattle.wu_core.specs.declared.workunit.Grant.{Grant}
 pub use Rattle.wu_core.specs.declared.workunit.Instance.{Instance}
 pub use Rattle.wu_core.specs.declared.workunit.Workunit.{Workunit}
-pub use Rattle.wu_schema.specs.Calls.{HasRun, IsBack, IsPart, IsUndone, Reads}
+pub use Rattle.wu_schema.specs.Calls.{HasRun, IsBack, IsPart, IsUndone, AsksOnly}
 pub use Rattle.wu_schema.specs.Faults.{IsFailure, fault_of}
 pub use Rattle.wu_schema.specs.Made.{HasMade, PutsOne}
 unfoldable pub use Rattle.wu_schema.specs.Pipeline.{pipeline}

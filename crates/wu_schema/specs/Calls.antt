@@ -50,7 +50,7 @@ pub record IsBack (old new : State) : Type 0 where
 
 -- What a question does to a connection, whatever it answers: it begins no transaction, changes nothing and commits
 -- nothing.
-pub record Reads {S T E : Type 0} (g : Ghosts S) (old new : Held S) (result : Result T E) : Type 0 where
+pub record AsksOnly {S T E : Type 0} (g : Ghosts S) (old new : Held S) (result : Result T E) : Type 0 where
   pub mode : old.in_transaction ≡ false → new.in_transaction ≡ false
   pub unchanged : HasCleanDisk (state g new) → OnOk result (IsUnchanged (state g old) (state g new))
   pub back : HasCleanDisk (state g new) → OnErr result (IsBack (state g old) (state g new))
@@ -68,9 +68,13 @@ OnFault g old new result Is = HasCleanDisk (state g new) → IfErr result (Is (s
 abbrev pub Serves : {S : Type 0} → Ghosts S → Held S → Held S → Fault → Type 0
 Serves g old new fault = HasCleanDisk (state g new) → fault ≡ NotAProject → IsUnchanged (state g old) (state g new)
 
+-- The disk failed between the two states, or the connection was not open.
+abbrev pub BreaksBetween : State → State → Type 0
+BreaksBetween old new = MoreFaults old.faults new.faults ⊎ (old.is_open ≡ false)
+
 -- The disk failed in this call, or the connection was not open.
 abbrev pub HasBroken : {S : Type 0} → Ghosts S → Held S → Held S → Type 0
-HasBroken g old new = MoreFaults (state g old).faults (state g new).faults ⊎ ((state g old).is_open ≡ false)
+HasBroken g old new = BreaksBetween (state g old) (state g new)
 
 -- On a clean disk, `Broken` means that the disk failed in this call, or that the connection was not open.
 abbrev pub BreaksTruly : {S : Type 0} → Ghosts S → Held S → Held S → Fault → Type 0
@@ -97,12 +101,12 @@ abbrev pub CommitsNothing : {S : Type 0} → Ghosts S → Held S → Held S → 
 CommitsNothing g old new = Survives (state g old) (state g new) (λ _. ⊥)
 
 -- On a clean disk, this holds of an answer and of each world that the tables represent.
-abbrev pub Tells : {S T E : Type 0} → Ghosts S → Held S → Held S → Result T E → (T → World → Type 0) → Type 0
-Tells g old new result Is = HasCleanDisk (state g new) → IfOk result (λ found. (world : World) → Refines (state g old).now world → Is found world)
+abbrev pub TellsWorld : {S T E : Type 0} → Ghosts S → Held S → Held S → Result T E → (T → World → Type 0) → Type 0
+TellsWorld g old new result Is = HasCleanDisk (state g new) → IfOk result (λ found. (world : World) → Refines (state g old).now world → Is found world)
 
 -- The answer is what each represented world has.
 abbrev pub Answers : {S T : Type 0} → Ghosts S → Held S → Held S → Result T Fault → (World → T) → Type 0
-Answers g old new result answer = Tells g old new result (λ found world. found ≡ answer world)
+Answers g old new result answer = TellsWorld g old new result (λ found world. found ≡ answer world)
 
 -- What a statement in a transaction does to it, whatever it answers.
 pub record StatementFrame {S T E : Type 0} (g : Ghosts S) (old new : Transaction S) (result : Result T E) : Type 0 where

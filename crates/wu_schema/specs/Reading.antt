@@ -11,17 +11,19 @@ use Rattle.wu_core.specs.declared.states.FileDelete.{FileDelete}
 use Rattle.wu_core.specs.declared.states.Outcome.{Outcome}
 use Rattle.wu_core.specs.declared.states.ServerState.{ServerState}
 use Rattle.wu_core.specs.declared.states.ValidateState.{ValidateState}
+use Rattle.wu_core.specs.declared.workunit.HostClass.{HostClass}
 use Rattle.wu_core.specs.declared.workunit.Instance.{Instance}
 use Rattle.wu_core.specs.Codes.{assimilate_code, file_delete_code, import_kind_code, outcome_code, server_state_code, validate_state_code}
 use Rattle.wu_core.specs.Mask.{error_mask_code}
-use Rattle.wu_schema.specs.Stored.{instance_row, number, number_or_null, verdict_digits}
+use Rattle.wu_schema.specs.Stored.{host_cells, instance_row, number, number_or_null, verdict_digits}
+use Rattle.wu_schema.specs.declared.rows.HostSum.{HostSum}
 use Rattle.wu_schema.specs.declared.rows.Progress.{Progress}
 use Rattle.wu_schema.specs.declared.rows.Moments.{Moments}
 use Rattle.wu_schema.specs.declared.rows.States.{States}
 use Rattle.wu_schema.specs.declared.rows.StoredImport.{StoredImport}
 use Rattle.sqlite.specs.declared.types.Value.{Value}
 use Rattle.sqlite.specs.declared.types.Value.TheVariants.{Text, Blob}
-use Rattle.wu_core.specs.Storable.{IsPlace, IsStoredInstance, IsStamped, AreMoments, AreVerdicts}
+use Rattle.wu_core.specs.Storable.{IsClass, IsName, IsPlace, IsStoredInstance, IsStamped, AreMoments, AreVerdicts}
 
 -- So many columns from this one on.
 abbrev pub columns : Row → ℕ → ℕ → Row
@@ -82,6 +84,18 @@ bare_instance_row i = take 8 (instance_row i)
 pub record IsBareInstance (i : Instance) : Type 0 where
   pub stored : IsStoredInstance i
   pub bare : i.output ≡ []
+
+-- The row of a host with the sum of its grants, as it is read.
+abbrev pub host_row : HostSum → Row
+host_row host = host_cells host.name host.total host.grants
+
+abbrev pub IsStoredHost : HostSum → Type 0
+IsStoredHost host = IsName host.name
+
+-- The host has a valid name, and its class is in range.
+pub record IsStoredHostClass (it : HostClass) : Type 0 where
+  pub host : IsName it.host
+  pub class : IsClass it.class
 
 -- The row of an import, as it is read.
 abbrev pub stored_import_row : StoredImport → Row

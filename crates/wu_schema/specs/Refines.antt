@@ -42,7 +42,7 @@ pub record HasClasses (db : Trees) (trees : ProjectTrees) (world : World) : Type
   pub workunits : ListsAll (db trees.workunit_class) (map stored_class world.workunits)
 
 -- No host and no workunit has a class.
-pub record IsClassless (world : World) : Type 0 where
+pub record LacksClasses (world : World) : Type 0 where
   pub hosts : world.classes ≡ []
   pub workunits : AllByRecursion (λ (w : Workunit). w.class ≡ 0) world.workunits
 
@@ -60,7 +60,7 @@ pub record HasRows (db : Trees) (trees : ProjectTrees) (world : World) : Type 0 
   pub imports_kept : AllByRecursion MayBeKept world.imports
   -- From version 3 on, classes are in tables of their own; before it no host and no workunit has a class.
   pub classes : IsClassedVersion world.version → HasClasses db trees world
-  pub classless : ¬ IsClassedVersion world.version → IsClassless world
+  pub classless : ¬ IsClassedVersion world.version → LacksClasses world
   pub classes_in_order : AreInOrder world.classes
 
 -- The tables are there, wherever the store put them and whatever else is there, and their rows are what the world

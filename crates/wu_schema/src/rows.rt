@@ -1,6 +1,6 @@
 //! Readers of stored rows. A row that is no value of its type is refused as `NotAProject`.
 
-ghost use Rattle.std.specs.Prelude.{◌≡◌, ◌⊎◌, ◌<◌, ◌≤◌, ◌^◌, ℕ, ⊤, [], ◌∷◌, ◌-◌, length, map, IfOk, IfErr, SomeIff};
+ghost use Rattle.std.specs.Prelude.{◌≡◌, ◌⊎◌, ◌<◌, ◌≤◌, ◌+◌, ◌^◌, ℕ, ⊤, [], ◌∷◌, ◌-◌, length, SomeIff};
 ghost use Rattle.std.specs.Bool.{Decides};
 ghost use Rattle.sqlite.specs.Order.{column};
 ghost use Rattle.sqlite.specs.declared.types.Value.TheVariants.{Int, Text, Blob};
@@ -9,9 +9,9 @@ ghost use Rattle.wu_core.specs.Formed.{IsInstance};
 ghost use Rattle.wu_core.specs.Limits.{last_moment};
 ghost use Rattle.wu_core.specs.Parameters.{IsParameters};
 ghost use Rattle.wu_core.specs.World.{last_skip};
-ghost use Rattle.wu_schema.specs.Stored.{archived_cells, instance_row, number, number_or_null, text_or_null, parameter_cells, verdict_digits, workunit_row};
+ghost use Rattle.wu_schema.specs.Stored.{archived_cells, class_cells, instance_row, number, number_or_null, text_or_null, parameter_cells, verdict_digits, workunit_row};
 ghost use Rattle.wu_schema.specs.Restoring.{Restores};
-ghost use Rattle.wu_schema.specs.Reading.{assimilate_cell, kind_cell, bare_instance_row, IsBareInstance, file_delete_cell, mask_cell, outcome_cell, server_state_cell, validate_state_cell, verdicts_cell, columns, progress_cells, IsProgress, IsStoredImport, stored_import_row, moment_cells, state_cells, HasMoments};
+ghost use Rattle.wu_schema.specs.Reading.{assimilate_cell, kind_cell, bare_instance_row, IsBareInstance, file_delete_cell, mask_cell, outcome_cell, server_state_cell, validate_state_cell, verdicts_cell, columns, progress_cells, IsProgress, IsStoredImport, stored_import_row, moment_cells, state_cells, HasMoments, host_row, IsStoredHost, IsStoredHostClass};
 ghost use Rattle.wu_core.specs.Storable.{IsOutput, IsInput, IsMoment, IsName, IsPlace, IsStoredWorkunit, AreVerdicts, IsNextNumber, IsClass, IsDeadline, IsHost, IsStoredArchived, IsStoredInstance};
 
 use crate::columns::{number_at, read_column};
@@ -19,9 +19,9 @@ use sqlite::Row;
 use sqlite::types::ValueRef;
 use std::alloc::Global;
 use wu_core::{
-    Archived, Assimilate, Bytes, Deadline, ErrorMask, Fault, FileDelete, HIGHEST_CLASS, ImportKind,
-    Instance, Instances, LONGEST_INPUT, LONGEST_OUTPUT, MOST_WORKUNITS, Moment, Name, Outcome,
-    Params, ServerState, ValidateState, Workunit,
+    Archived, Assimilate, Bytes, Deadline, ErrorMask, Fault, FileDelete, HIGHEST_CLASS, HostClass,
+    ImportKind, Instance, Instances, LONGEST_INPUT, LONGEST_OUTPUT, MOST_WORKUNITS, Moment, Name,
+    Outcome, Params, ServerState, ValidateState, Workunit,
 };
 
 /// Reads a name in a column.
@@ -242,15 +242,16 @@ pub fn validate_state_at(row: &Row, at: usize) -> Result<ValidateState, Fault>
     ValidateState::from_code(code).ok_or(Fault::NotAProject)
 }
 
-/// Reads the states in the first four columns.
-fn states_from(row: &Row) -> Result<States, Fault>
-    ensures { Restores state_cells (λ _. ⊤) (columns row.now 0 4) result }
+/// Reads the states in the four columns from this one on.
+fn states_at(row: &Row, at: usize) -> Result<States, Fault>
+    requires { at + 4 < 2 ^ 64 }
+    ensures { Restores state_cells (λ _. ⊤) (columns row.now at 4) result }
 {
     Ok(States {
-        server_state: server_state_at(row, 0)?,
-        outcome: outcome_at(row, 1)?,
-        validate_state: validate_state_at(row, 2)?,
-        file_delete: file_delete_at(row, 3)?,
+        server_state: server_state_at(row, at)?,
+        outcome: outcome_at(row, at + 1)?,
+        validate_state: validate_state_at(row, at + 2)?,
+        file_delete: file_delete_at(row, at + 3)?,
     })
 }
 
@@ -272,15 +273,16 @@ pub fn deadline_at(row: &Row, at: usize) -> Result<Option<Deadline>, Fault>
     }
 }
 
-/// Reads the moments in the three columns from the sixth on.
-fn moments_from(row: &Row) -> Result<Moments, Fault>
-    requires { 8 ≤ length row.now }
-    ensures { Restores moment_cells HasMoments (columns row.now 5 3) result }
+/// Reads the moments in the three columns from this one on.
+fn moments_at(row: &Row, at: usize) -> Result<Moments, Fault>
+    requires there { at + 3 ≤ length row.now }
+    requires fits { at + 3 < 2 ^ 64 }
+    ensures { Restores moment_cells HasMoments (columns row.now at 3) result }
 {
     Ok(Moments {
-        sent_at: moment_at(row, 5)?,
-        deadline: deadline_at(row, 6)?,
-        received_at: moment_at(row, 7)?,
+        sent_at: moment_at(row, at)?,
+        deadline: deadline_at(row, at + 1)?,
+        received_at: moment_at(row, at + 2)?,
     })
 }
 
@@ -311,7 +313,7 @@ pub fn output_at(row: &Row, at: usize) -> Result<Bytes, Fault>
 }
 
 /// Returns whether host, time of sending and deadline are there together, and as the states require.
-pub fn is_formed(instance: &Instance) -> bool
+fn is_formed(instance: &Instance) -> bool
     // It is true exactly where host, sending time and deadline are all there or none: none while
     // unsent, all in progress and after success.
     ensures { Decides result (IsInstance instance.now) }
@@ -328,17 +330,20 @@ pub fn is_formed(instance: &Instance) -> bool
         && !(is_success && !has_host)
 }
 
-/// Reads the instance in the first eight columns, those of the table `result` from the third on, without its output.
-pub fn bare_instance_from(alloc: Global, row: &Row) -> Result<Instance, Fault>
-    // The row has at least 8 columns.
-    requires { 8 ≤ length row.now }
+/// Reads the instance in the eight columns from this one on: those of the table `result` from the third on, without its
+/// output.
+pub fn bare_instance_at(alloc: Global, row: &Row, at: usize) -> Result<Instance, Fault>
+    // The row has these columns.
+    requires there { at + 8 ≤ length row.now }
+    // Their places are numbers of 64 bits.
+    requires fits { at + 8 < 2 ^ 64 }
     // Columns of a well-formed instance with values in their ranges are read as it, without output,
     // or out of memory; any others are refused.
-    ensures { Restores bare_instance_row IsBareInstance (columns row.now 0 8) result }
+    ensures { Restores bare_instance_row IsBareInstance (columns row.now at 8) result }
 {
-    let states = states_from(row)?;
-    let moments = moments_from(row)?;
-    let host = host_at(alloc, row, 4)?;
+    let states = states_at(row, at)?;
+    let moments = moments_at(row, at + 5)?;
+    let host = host_at(alloc, row, at + 4)?;
     let instance = Instance {
         server_state: states.server_state,
         outcome: states.outcome,
@@ -357,6 +362,22 @@ pub fn bare_instance_from(alloc: Global, row: &Row) -> Result<Instance, Fault>
     }
 }
 
+/// Reads the instance in the nine columns from this one on: those of the table `result` from the third on.
+pub fn instance_at(alloc: Global, row: &Row, at: usize) -> Result<Instance, Fault>
+    // The row has these columns.
+    requires there { at + 9 ≤ length row.now }
+    // Their places are numbers of 64 bits.
+    requires fits { at + 9 < 2 ^ 64 }
+    // Columns of a well-formed instance with values in their ranges are read as it, or out of
+    // memory; any others are refused.
+    ensures { Restores instance_row IsStoredInstance (columns row.now at 9) result }
+{
+    let output = output_at(row, at + 8)?;
+    let mut instance = bare_instance_at(alloc, row, at)?;
+    instance.output = output;
+    Ok(instance)
+}
+
 /// Reads the instance of a row of the table `result` with its columns from the third on, in their order.
 pub fn instance_from(alloc: Global, row: &Row) -> Result<Instance, Fault>
     // The row of a well-formed instance with values in their ranges is read as it, or out of
@@ -366,10 +387,36 @@ pub fn instance_from(alloc: Global, row: &Row) -> Result<Instance, Fault>
     if row.column_count() != 9 {
         return Err(Fault::NotAProject);
     }
-    let output = output_at(row, 8)?;
-    let mut instance = bare_instance_from(alloc, row)?;
-    instance.output = output;
-    Ok(instance)
+    instance_at(alloc, row, 0)
+}
+
+/// The sum of some grants to one host.
+#[derive(Drop)]
+pub struct HostSum {
+    pub name: Name,
+    /// Their credit.
+    pub total: u64,
+    /// How many they are.
+    pub grants: u64,
+}
+
+/// Reads the sum of all grants to a host of a row of the table `host` with its columns in their order.
+pub fn host_from(alloc: Global, row: &Row) -> Result<HostSum, Fault>
+    // A row of a name and two numbers is read as that host's sum, or out of memory; any other row
+    // is refused.
+    ensures { Restores host_row IsStoredHost row.now result }
+{
+    if row.column_count() != 3 {
+        return Err(Fault::NotAProject);
+    }
+    let total = number_at(row, 1)?;
+    let grants = number_at(row, 2)?;
+    let name = name_at(alloc, row, 0)?;
+    Ok(HostSum {
+        name,
+        total,
+        grants,
+    })
 }
 
 /// Reads the number of an instance in a column.
@@ -424,6 +471,20 @@ pub fn class_at(row: &Row, at: usize) -> Result<u32, Fault>
         return Err(Fault::NotAProject);
     }
     Ok(class)
+}
+
+/// Reads the host of a row of the table `host_class` with its columns in their order, and its class.
+pub fn host_class_from(alloc: Global, row: &Row) -> Result<HostClass, Fault>
+    // A row of a name and a class is read as that host and class, or out of memory; any other row
+    // is refused.
+    ensures { Restores class_cells IsStoredHostClass row.now result }
+{
+    if row.column_count() != 2 {
+        return Err(Fault::NotAProject);
+    }
+    let class = class_at(row, 1)?;
+    let host = name_at(alloc, row, 0)?;
+    Ok(HostClass { host, class })
 }
 
 /// Reads the bytes in a column.

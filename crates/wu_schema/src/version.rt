@@ -3,7 +3,7 @@
 ghost use Rattle.std.specs.Prelude.{◌≡◌, ◌⊎◌, ◌≤◌, ◌<◌, ℕ, None, Some, Ok, IfSome, IfOk, IfErr, OnOk};
 ghost use Rattle.wu_core.specs.declared.fault.Fault.TheVariants.{Memory, NotAProject};
 ghost use Rattle.wu_schema.specs.Asking.{Asks, ServesUnlessFailed};
-ghost use Rattle.wu_schema.specs.Calls.{BreaksAfter, Reads, OnAnswer, OnFault, ServesAfter};
+ghost use Rattle.wu_schema.specs.Calls.{BreaksAfter, AsksOnly, OnAnswer, OnFault, ServesAfter};
 ghost use Rattle.wu_schema.specs.Faults.{fault_of, IsStoreFault};
 ghost use Rattle.wu_schema.specs.Versions.{AnswersVersion, FailsToAsk, IsAnswered, IsMissingOnly, IsOtherFault, IsVersionIn, ReadsVersion, RefusesVersion, ShowsProject, TellsAbsence, TellsMissing};
 
@@ -16,7 +16,7 @@ use wu_core::{Fault, PRESENT_VERSION};
 
 /// Asks for the rows of the table `project`.
 fn project_rows<S: Alter>(conn: &mut Connection<S>) -> Result<Vec<Row>, Error>
-    ensures reads { Reads S.Store conn.old conn.new result }
+    ensures reads { AsksOnly S.Store conn.old conn.new result }
     ensures serves { ServesAfter S.Store conn.old conn.new result }
     // Over a table `project` with its columns, the rows are those of the table, in some order.
     ensures answers { OnAnswer S.Store conn.old conn.new result ShowsProject }

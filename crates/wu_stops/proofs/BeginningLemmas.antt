@@ -12,7 +12,8 @@ use Rattle.sqlite.specs.Effect.{Database}
 use Rattle.sqlite.specs.Held.{Held}
 use Rattle.sqlite.specs.Order.{Row}
 use Rattle.sqlite.specs.Schema.{Schema}
-use Rattle.sqlite.specs.Files.{AreFoundIn, Finds, IsEmpty, IsOpened, file_state}
+use Rattle.sqlite.specs.Files.{AreFoundIn, Finds, IsEmpty, IsOpened, file_state, image_of}
+use Rattle.sqlite.specs.Start.{FindsIn}
 use Rattle.sqlite.specs.Tree.{Trees}
 use Rattle.wu_core.specs.World.{World, empty_world}
 use Rattle.wu_passes.specs.Committing.{FoundAs}
@@ -25,11 +26,11 @@ use Rattle.std.proofs.Math.Logic.{∥∥₁_map}
 use Rattle.sqlite.specs.State.{State}
 use Rattle.wu_schema.specs.Versions.{LacksProject}
 use Rattle.wu_schema.proofs.StandsLemmas.{same_database}
-use Rattle.wu_stops.specs.Beginning.{AwaitsProject, HoldWorld, IsBlank}
+use Rattle.wu_stops.specs.Beginning.{AwaitsProject, HoldsWorld}
 use Rattle.wu_stops.specs.Stopping.{IsReopened}
 use Rattle.wu_stops.proofs.StoppingLemmas.{committed_at, goes_again}
 
-none_beside : {A B : Type 0} (R : A → B → Type 0) (xs : List A) (ys : List B) → xs ≡ [] → AllZip R xs ys → ys ≡ []
+pub none_beside : {A B : Type 0} (R : A → B → Type 0) (xs : List A) (ys : List B) → xs ≡ [] → AllZip R xs ys → ys ≡ []
 none_beside R [] [] none all = refl
 none_beside R [] (y ∷ ys) none all = absurd all
 none_beside R (x ∷ xs) ys none all = absurd cc
@@ -60,12 +61,15 @@ module _ {D : Type 0} {g : Ghosts D} (again : Held (FileStore D g)) (opened : Is
   goes_from_trees stays world held =
       goes_again (file_state again) world (committed_at again stays opened) (subst (λ (d : Database). FoundAs d.trees world) (sym opened.0.clean) held)
 
--- over two files
-module _ {D : Type 0} {g : Ghosts D} (files : Files D) (again : Held (FileStore D g)) (opened : IsOpened again) (found : Finds files again) where
-  pub blank_vacant : IsBlank g files → IsVacant (file_state again)
-  blank_vacant blank = empty_vacant again opened (no_database _ _ blank found.reads)
+pub finds_in : {D : Type 0} {g : Ghosts D} (files : Files D) (again : Held (FileStore D g)) → Finds files again → FindsIn (image_of g files) (file_state again)
+finds_in files again found = record { holds = found.holds; reads = found.reads }
 
-  pub goes_from : SeenMayStay g → (world : World) → HoldWorld g files world → GoesOn (file_state again) world
+-- over two files with these bytes
+module _ {D : Type 0} {g : Ghosts D} (again : Held (FileStore D g)) (opened : IsOpened again) (image : Image) (found : FindsIn image (file_state again)) where
+  pub blank_vacant : image.db ≡ [] → IsVacant (file_state again)
+  blank_vacant blank = empty_vacant again opened (no_database image _ blank found.reads)
+
+  pub goes_from : SeenMayStay g → (world : World) → HoldsWorld image world → GoesOn (file_state again) world
   goes_from stays world held = goes_from_trees again opened stays world (subst (λ (db : Trees). FoundAs db world) (sym (found.holds held.trees held.holds)) held.found)
 
 -- what a stop within an adoption left of a free database

@@ -1,9 +1,9 @@
 -- Where a history of sessions begins: two files are opened, and the project in them is adopted.
 use Rattle.std.specs.Prelude.{◌≡◌, ◌≤◌, []}
 use Rattle.sqlite_disk.specs.declared.Disk.{Ghosts}
-use Rattle.sqlite_disk.specs.declared.Files.{Files}
 use Rattle.sqlite_store.specs.declared.store.FileStore.{FileStore}
-use Rattle.sqlite.specs.Files.{HoldsDatabase, file_state, image_of, over_files}
+use Rattle.sqlite_wal.specs.Recovery.{Image}
+use Rattle.sqlite.specs.Files.{HoldsDatabase, file_state, over_files}
 use Rattle.sqlite.specs.Held.{Held}
 use Rattle.sqlite.specs.State.{State, HasCleanDisk}
 use Rattle.sqlite.specs.Tree.{Trees}
@@ -17,27 +17,22 @@ use Rattle.wu_passes.specs.Adopting.{IsVacant, LeavesFresh}
 use Rattle.wu_passes.specs.Standing.{FaultsOnlyGrow, GoesOn}
 use Rattle.wu_stops.specs.Stopping.{IsCommitted}
 
-module _ {D : Type 0} (g : Ghosts D) (files : Files D) where
-  -- The file of the database has no byte; whatever its log holds is then dropped.
-  abbrev pub IsBlank : Type 0
-  IsBlank = g.seen files.db ≡ []
+-- The two files with these bytes hold the tables of this world.
+pub record HoldsWorld (image : Image) (world : World) : Type 0 where
+  pub trees : Trees
+  pub holds : HoldsDatabase image trees
+  pub found : FoundAs trees world
 
-  -- The two files hold tables that represent this world.
-  pub record HoldWorld (world : World) : Type 0 where
-    pub trees : Trees
-    pub holds : HoldsDatabase (image_of g files) trees
-    pub found : FoundAs trees world
-    pub first : 1 ≤ world.version
+-- If the database has no byte, a session begins from the empty world, and further commands may run over it. Whatever
+-- the log holds is then dropped.
+abbrev pub BeginsBlank : Image → State → Type 0
+BeginsBlank image new = image.db ≡ [] → HasCleanDisk new → GoesOn new empty_world × IsPresentProject empty_world
 
-  -- Over blank files a session begins from the empty world, and further commands may run over it.
-  abbrev pub BeginsEmpty : Project (FileStore D g) over_files → Type 0
-  BeginsEmpty new = IsBlank → HasCleanDisk (state_of new) → GoesOn (state_of new) empty_world × IsPresentProject empty_world
-
-  -- Over the tables of a world a session goes on from that world, whose version this program knows.
-  abbrev pub GoesFromTables : Project (FileStore D g) over_files → Type 0
-  GoesFromTables new =
-      (world : World) → ∥ HoldWorld world ∥₁ → HasCleanDisk (state_of new)
-      → ∥ GoesOn (state_of new) world × (world.version ≤ present_version) ∥₁
+-- If the files may hold the tables of a world, a session goes on from that world, whose version the program knows.
+abbrev pub GoesFromTables : Image → State → Type 0
+GoesFromTables image new =
+    (world : World) → 1 ≤ world.version → ∥ HoldsWorld image world ∥₁ → HasCleanDisk new
+    → ∥ GoesOn new world × (world.version ≤ present_version) ∥₁
 
 -- A database is given back after an adoption, whether that succeeded or not. A crash leaves what it could leave before,
 -- or a fresh project, and the session of a world goes on.

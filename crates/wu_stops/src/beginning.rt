@@ -1,11 +1,11 @@
 //! Where a session starts: two files are opened, and the project in them is adopted.
 
-ghost use Rattle.std.specs.Prelude.{false, IfSome, IsTrue};
-ghost use Rattle.sqlite.specs.Files.{file_state};
+ghost use Rattle.std.specs.Prelude.{IfSome, IsTrue};
+ghost use Rattle.sqlite.specs.Files.{file_state, image_of};
 ghost use Rattle.sqlite.specs.Held.{state};
 ghost use Rattle.wu_passes.specs.Adopting.{Adopts};
 ghost use Rattle.wu_passes.specs.Projects.{IsSessionOpen, IsOpen, IsUnlimited, KnowsTables, state_of};
-ghost use Rattle.wu_stops.specs.Beginning.{BeginsAgain, BeginsEmpty, GoesFromTables, GoesAgain, LeavesAdopted};
+ghost use Rattle.wu_stops.specs.Beginning.{BeginsAgain, BeginsBlank, GoesFromTables, GoesAgain, LeavesAdopted};
 ghost use Rattle.wu_stops.specs.Stopping.{WasClean};
 
 use crate::stopping::stop_and_open;
@@ -77,10 +77,12 @@ pub fn open_and_adopt<D: Disk + Drop>(
     ensures knows { IfSome result KnowsTables }
     // Over a database without a byte the session begins from the empty world, and further commands
     // go on from there.
-    ensures blank { IfSome result (BeginsEmpty D.Disk files) }
+    ensures blank { IfSome result
+        (λ project. BeginsBlank (image_of D.Disk files) (state_of project)) }
     // Over files that hold the tables of a world the session goes on from it, and knows its
     // version.
-    ensures found { IfSome result (GoesFromTables D.Disk files) }
+    ensures found { IfSome result
+        (λ project. GoesFromTables (image_of D.Disk files) (state_of project)) }
 {
     match Connection::open_files(alloc, files, options) {
         Ok(conn) => begin(conn),

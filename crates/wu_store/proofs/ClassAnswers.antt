@@ -1,14 +1,13 @@
 -- What the questions for classes answer.
-use Rattle.wu_schema.proofs.Words.{Binary, Bool, Int, IsPermutation, IsPermutation-filter, IsPermutation-map, IsPermutation-trans, Less, List, None, Option, Row, Shown, Some, State, Text, Workunit, World, [], ap, arith, bytes_eq, class_cells, codes, column, drop, equal, everything, filter, filter-map, find, holds, host_class_at, length, list_all, lit, map, map-map, negsuc, number, option_map, option_to_list, refl, stored_class, subst, sym, true, workunit_class_at, ℕ, ◌==◌, ◌∙◌, ◌∷◌, ◌≡◌, ◌≤◌, IsAscending}
+use Rattle.wu_schema.proofs.Words.{Binary, Bool, Int, Less, List, None, Option, Row, Shown, Some, State, Text, Workunit, World, [], ap, arith, bytes_eq, class_cells, codes, column, drop, equal, everything, filter, find, holds, host_class_at, length, list_all, lit, negsuc, number, option_map, option_to_list, refl, stored_class, sym, true, workunit_class_at, ℕ, ◌==◌, ◌∙◌, ◌∷◌, ◌≡◌, ◌≤◌, IsAscending}
 use Rattle.std.specs.Option.{option_map_or}
 use Rattle.sqlite_sql.specs.declared.ops.CompareOp.TheVariants as compare
 use Rattle.wu_core.specs.declared.workunit.HostClass.{HostClass}
 use Rattle.wu_core.proofs.HostLemmas.{Ascends, below, matches, pairs_ascend}
 use Rattle.wu_schema.specs.Tables.{IsClassedVersion}
-use Rattle.wu_schema.proofs.Parts.{HostClasses, IsIn, Part, WorkClasses, name_of, parts_there, table_in}
+use Rattle.wu_schema.proofs.Parts.{HostClasses, IsIn, Part, WorkClasses, name_of, table_in}
 use Rattle.wu_schema.proofs.RowLemmas.{one_test}
-use Rattle.wu_schema.proofs.SelectLemmas.{Asked, Fits, IsTyped, parsed_of, select_of}
-use Rattle.wu_schema.proofs.ToldLemmas.{asked_told}
+use Rattle.wu_schema.proofs.SelectLemmas.{Asked, Fits, IsTyped}
 use Rattle.wu_store.specs.Answers.{numbered}
 use Rattle.wu_store.specs.Reads.{WithClasses}
 use Rattle.wu_store.proofs.AskLemmas.{IsQuestion, question_over}
@@ -55,14 +54,14 @@ pub host_fits : (tree : ℕ) → Fits (codes "host_class") (host_class_at tree) 
 unfolding everything
 host_fits tree = record { shown = refl; tests = refl; strict = refl; order = refl; height = (698, refl); few = omega arith; limit = λ schema. refl; read = refl; typed = refl }
 
-abbrev pub host_row : HostClass → Row
-host_row it = number it.class ∷ []
+abbrev pub class_row : HostClass → Row
+class_row it = number it.class ∷ []
 
 abbrev is_named : List ℕ → HostClass → Bool
 is_named host it = bytes_eq it.host host
 
 abbrev pub row_named : List ℕ → World → Option Row
-row_named host world = option_map host_row (find (is_named host) world.classes)
+row_named host world = option_map class_row (find (is_named host) world.classes)
 
 abbrev pub Before : HostClass → HostClass → Type 0
 Before one other = below one.host other.host
@@ -91,8 +90,8 @@ pub host_found : (old new : State) (host : List ℕ) (rows : List Row) → Shown
 host_found old new host rows h world (known, s) =
     let stored = old.now.trees s.trees.host_class in
     let all = asked_rows HostClasses host_asked host_fits old new world s known (Text host ∷ []) rows refl h in
-    only_shown host_row (is_named host) world.classes rows (once_named host world.classes (rising world.classes (pairs_ascend Before world.classes s.rows.classes_in_order)))
-    (cells_shown class_cells host_row (is_named host) (by_name host) class_in _ _ (tests_cells host) shows_cells (λ it. text_equal it.host host) (λ it. refl) world.classes stored (s.rows.classes known).hosts rows all)
+    only_shown class_row (is_named host) world.classes rows (once_named host world.classes (rising world.classes (pairs_ascend Before world.classes s.rows.classes_in_order)))
+    (cells_shown class_cells class_row (is_named host) (by_name host) class_in _ _ (tests_cells host) shows_cells (λ it. text_equal it.host host) (λ it. refl) world.classes stored (s.rows.classes known).hosts rows all)
   where
     shows_cells : (r : Row) → column r 2 ∷ [] ≡ class_in (drop 1 r)
     shows_cells [] = refl
@@ -101,11 +100,11 @@ host_found old new host rows h world (known, s) =
 -- ---- what the answers are
 
 -- the row that is shown has the class
-pub shown_class : (o : Option HostClass) (row : Row) → option_map host_row o ≡ Some row → column row 0 ≡ number (option_map_or (λ (it : HostClass). it.class) o 0)
+pub shown_class : (o : Option HostClass) (row : Row) → option_map class_row o ≡ Some row → column row 0 ≡ number (option_map_or (λ (it : HostClass). it.class) o 0)
 shown_class None row is = absurd (cc)
-shown_class (Some it) row is = let e : host_row it ≡ row = cc in ap (λ (r : Row). column r 0) (sym e)
+shown_class (Some it) row is = let e : class_row it ≡ row = cc in ap (λ (r : Row). column r 0) (sym e)
 
-pub none_shown : (o : Option HostClass) → option_map host_row o ≡ None → option_map_or (λ (it : HostClass). it.class) o 0 ≡ 0
+pub none_shown : (o : Option HostClass) → option_map class_row o ≡ None → option_map_or (λ (it : HostClass). it.class) o 0 ≡ 0
 none_shown None is = refl
 none_shown (Some it) is = absurd (cc)
 

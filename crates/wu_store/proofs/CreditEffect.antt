@@ -20,10 +20,10 @@ use Rattle.wu_store.specs.Changes.{AddsGrants, Credits, HasCredited, HasListed, 
 use Rattle.wu_store.specs.Sums.{AreSums}
 use Rattle.wu_store.specs.Queues.{KeepsQueue}
 use Rattle.sqlite_trees.specs.Tree.{Trees}
-use Rattle.wu_store.specs.declared.changes.HostSum.{HostSum}
+use Rattle.wu_schema.specs.declared.rows.HostSum.{HostSum}
 use Rattle.wu_store.proofs.GrantSums.{AreCounted, counted_parts, credit_both, grants_both, alike_cells, spread, spread_sums, spreads, spreads_sums, sum_grown, sum_new, sums_both}
 use Rattle.wu_store.proofs.EqualLemmas.{text_equal}
-use Rattle.wu_store.proofs.HostEffect.{Grown, grows, host_row, summed}
+use Rattle.wu_store.proofs.HostEffect.{Grown, grows, keyed_host, summed}
 use Rattle.wu_store.proofs.UpsertTexts.{upsert_text}
 use Rattle.wu_store.proofs.NameKey.{host_key}
 use Rattle.wu_schema.proofs.RowLemmas.{int_value}
@@ -59,7 +59,7 @@ module _ (db : Database) (tree : ℕ) (sound : IsDatabase db) (stands : Has db.s
   in_cells (v ∷ r) name total count is = (ap (λ (c : Row). column (v ∷ c) 1) is, ap (λ (c : Row). column (v ∷ c) 2) is, ap (λ (c : Row). column (v ∷ c) 3) is)
 
   -- a new host
-  new_rows : ((r : Row) → Has rows r → equal Binary (column r 1) (Text sum.name) ≡ false) → HoldsHosts (put_row (host_row (next_rowid rows) sum.name (pos sum.total) (pos sum.grants)) rows) (grants ++ more)
+  new_rows : ((r : Row) → Has rows r → equal Binary (column r 1) (Text sum.name) ≡ false) → HoldsHosts (put_row (keyed_host (next_rowid rows) sum.name (pos sum.total) (pos sum.grants)) rows) (grants ++ more)
   new_rows apart = holds_permuted (sum_new host_cells grants more sum are free) (holds_put (host_cells sum.name sum.total sum.grants) (host_list host_cells grants) rows (next_is_free Chosen rows (host_cells sum.name sum.total sum.grants) h.shaped.0 h.shaped.1) h)
     where
       free : is_among sum.name (hosts_of grants) ≡ false
@@ -153,7 +153,7 @@ module _ (old new : State) (version : ℕ) (t : ProjectTrees) (grants more : Lis
 
 -- the table of hosts is one then
 shaped_then : (old new : Trees) (tree : ℕ) (name : List ℕ) (total count : ℤ) → Grown old new tree name total count → IsShaped shape.Table (old tree) → IsShaped shape.Table (new tree)
-shaped_then old new tree name total count (inl put) shaped = subst (IsShaped shape.Table) (sym put.1) (IsShaped-put_row (host_row (next_rowid (old tree)) name total count) (old tree) refl shaped)
+shaped_then old new tree name total count (inl put) shaped = subst (IsShaped shape.Table) (sym put.1) (IsShaped-put_row (keyed_host (next_rowid (old tree)) name total count) (old tree) refl shaped)
 shaped_then old new tree name total count (inr (x, id, there, on, is, trees)) shaped = subst (IsShaped shape.Table) (sym trees) (replaced_shaped id (summed tree x total count) (old tree) shaped (summed_key tree x id total count is))
 
 pub credits_one : (old new : State) (sum : HostSum) (count : ℕ) → Executes upsert_text (sum_cells sum) old new (Ok count) → Credits (sum ∷ []) old.now new.now

@@ -11,7 +11,7 @@ use Rattle.wu_core.specs.Hosts.{credit_of, grants_of, is_to, with_host}
 use Rattle.wu_core.proofs.HostLemmas.{grants_more, host_comes, host_list, host_stays, hosts_more, is_among, no_credit, no_grants, once}
 use Rattle.wu_store.proofs.HostNames.{same_hosts}
 use Rattle.wu_store.specs.Sums.{AreSums, count_of, is_for, total_of}
-use Rattle.wu_store.specs.declared.changes.HostSum.{HostSum}
+use Rattle.wu_schema.specs.declared.rows.HostSum.{HostSum}
 
 -- ---- lists behind one another
 

@@ -22,8 +22,8 @@ use Rattle.wu_store.proofs.FallLemmas.{has_own}
 use Rattle.wu_store.proofs.DeleteEffect.{only_row}
 use Rattle.wu_schema.proofs.InsertEffect.{cast_null, cast_int}
 
-abbrev pub host_row : ℤ → List ℕ → ℤ → ℤ → Row
-host_row id name total grants = Int id ∷ Text name ∷ Int total ∷ Int grants ∷ []
+abbrev pub keyed_host : ℤ → List ℕ → ℤ → ℤ → Row
+keyed_host id name total grants = Int id ∷ Text name ∷ Int total ∷ Int grants ∷ []
 
 -- what is given
 abbrev pub sum_row : List ℕ → ℤ → ℤ → Row
@@ -35,7 +35,7 @@ source name total grants = Null ∷ sum_row name total grants
 source_kept : (tree : ℕ) (name : List ℕ) (total grants : ℤ) → cast_row (host_at tree) (source name total grants) ≡ source name total grants
 source_kept tree name total grants = simp (cast_null, cast_int)
 
-row_kept : (tree : ℕ) (id : ℤ) (name : List ℕ) (total grants : ℤ) → cast_row (host_at tree) (host_row id name total grants) ≡ host_row id name total grants
+row_kept : (tree : ℕ) (id : ℤ) (name : List ℕ) (total grants : ℤ) → cast_row (host_at tree) (keyed_host id name total grants) ≡ keyed_host id name total grants
 row_kept tree id name total grants = simp (cast_null, cast_int)
 
 -- the row with its new sums
@@ -45,7 +45,7 @@ summed tree x total grants = cast_row (host_at tree) (rowid x ∷ column x 1 ∷
 -- the rows of the table after an upsert: a new host, or a host whose sums grow
 abbrev pub Grown : Trees → Trees → ℕ → List ℕ → ℤ → ℤ → Type 0
 Grown old new tree name total grants =
-    (((r : Row) → Has (old tree) r → equal Binary (column r 1) (Text name) ≡ false) × (new tree ≡ put_row (host_row (next_rowid (old tree)) name total grants) (old tree)))
+    (((r : Row) → Has (old tree) r → equal Binary (column r 1) (Text name) ≡ false) × (new tree ≡ put_row (keyed_host (next_rowid (old tree)) name total grants) (old tree)))
     ⊎ ((x : Row) × (id : ℤ) × Has (old tree) x × (equal Binary (column x 1) (Text name) ≡ true) × (rowid x ≡ Int id) × (new tree ≡ replaced id (summed tree x total grants) (old tree)))
 
 module _ (limit : Option ℕ) (mode : Mode) (db : Database) (tree : ℕ) where
@@ -100,7 +100,7 @@ module _ (limit : Option ℕ) (mode : Mode) (keys : mode.keys ≡ Enforced) (db 
       )
 
   abbrev new_host : Row
-  new_host = host_row (next_rowid (db.trees tree)) name total grants
+  new_host = keyed_host (next_rowid (db.trees tree)) name total grants
 
   abbrev Kept : Trees → Type 0
   Kept after = (t : Table) → Has db.schema.tables t → t.tree ≢ tree → IsCalm db.schema Enforced t tree → after t.tree ≡ db.trees t.tree
@@ -136,7 +136,7 @@ module _ (old new : State) (at tree : ℕ) (has : HasTable old.now.schema (codes
       let keyed = names_key schema tree key in
       let ran = runs_as upsert_text params old new schema refl (InsertOr at Abort (Values upsert_terms 4) (clause tree ∷ [])) (upsert_compiles schema at tree has keyed).is (upsert_compiles schema at tree has keyed).plain count h in
       let did = upsert_does old.step_limit (mode_of old) params old.now (statement_of upsert_text (understood schema upsert_text)) at (host_at tree) has.there ran.tally new.now (clause tree) upsert_terms 4 (source name total grants) refl refl refl ran.changed in
-      let met : HasMet old.step_limit (mode_of old) params old.now (host_at tree) (clause tree) (host_row (next_rowid (db tree)) name total grants) new.now.trees =
+      let met : HasMet old.step_limit (mode_of old) params old.now (host_at tree) (clause tree) (keyed_host (next_rowid (db tree)) name total grants) new.now.trees =
       subst (λ s. HasMet old.step_limit (mode_of old) params old.now (host_at tree) (clause tree) (with_rowid Chosen (db tree) s) new.now.trees) (source_kept tree name total grants) did.1 in
       let done = decide old.step_limit (mode_of old) refl old.now tree has.low owns stands rising name total grants key met.found met.written met.conflicts met.met in (
         did.0,

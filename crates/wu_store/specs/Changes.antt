@@ -25,7 +25,7 @@ use Rattle.wu_store.specs.StandsFor.{KnowsClasses, StandsFor, marked as marks_in
 use Rattle.wu_core.specs.declared.marks.Marks.{Marks}
 use Rattle.wu_schema.specs.Calm.{IsCalm}
 use Rattle.wu_store.specs.Sums.{AreSums}
-use Rattle.wu_store.specs.declared.changes.HostSum.{HostSum}
+use Rattle.wu_schema.specs.declared.rows.HostSum.{HostSum}
 
 -- Nothing is written, and nothing is refused.
 abbrev pub DoesNothing : {X T E : Type 0} → X → X → Result T E → Type 0

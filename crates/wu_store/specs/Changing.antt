@@ -15,7 +15,7 @@ use Rattle.wu_store.specs.StandsFor.{KnowsClasses, StandsFor, marked}
 use Rattle.wu_store.specs.declared.changes.Change.{Change}
 use Rattle.wu_store.specs.declared.changes.Change.TheVariants.{Add, Replace, Remove, Grants, Archive, Next, Keep, Class, Upgrade}
 use Rattle.wu_store.specs.Sums.{AreSums}
-use Rattle.wu_store.specs.declared.changes.HostSum.{HostSum}
+use Rattle.wu_schema.specs.declared.rows.HostSum.{HostSum}
 use Rattle.wu_store.specs.declared.changes.Import.{Import as Kept}
 
 -- The import as it is kept.

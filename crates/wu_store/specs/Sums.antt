@@ -3,7 +3,7 @@ use Rattle.std.specs.Prelude.{◌≡◌, ◌<◌, ℕ, Bool, List, filter, sum_b
 use Rattle.wu_core.specs.declared.workunit.Grant.{Grant}
 use Rattle.std.specs.List.{AllByRecursion}
 use Rattle.wu_core.specs.Hosts.{credit_of, grants_of}
-use Rattle.wu_store.specs.declared.changes.HostSum.{HostSum}
+use Rattle.wu_schema.specs.declared.rows.HostSum.{HostSum}
 
 -- Whether the sum is for this host.
 abbrev pub is_for : List ℕ → HostSum → Bool

@@ -23,6 +23,7 @@ use std::alloc::Global;
 use wu_core::{Archived, Grant, ImportKind, Instance, Marks, Name, QUEUE_VERSION, Workunit};
 use wu_rules::marks_of;
 use wu_schema::make_queue;
+use wu_schema::rows::HostSum;
 
 /// What is kept permanently of an import: its content, which is borrowed, and its first answer.
 #[derive(Drop)]
@@ -34,16 +35,6 @@ pub struct Import<'a> {
     /// The first number of a batch; 0 if no workunit was made.
     pub first_number: u64,
     pub verdicts: Verdicts,
-}
-
-/// The sum of some grants to one host.
-#[derive(Drop)]
-pub struct HostSum {
-    pub name: Name,
-    /// Their credit.
-    pub total: u64,
-    /// How many they are.
-    pub grants: u64,
 }
 
 /// One change of a project's tables. It is right for a world if its premises hold there. A new number is above all, and

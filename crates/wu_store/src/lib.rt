@@ -17,7 +17,7 @@ mod statements;
 mod texts;
 mod verdicts;
 
-pub use changes::{Change, HostSum, Import, apply};
+pub use changes::{Change, Import, apply};
 pub use classes::{class_of, class_of_workunit};
 pub use due::{due_numbers, load_due, load_marks};
 pub use loading::{

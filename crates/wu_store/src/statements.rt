@@ -17,7 +17,7 @@ ghost use Rattle.wu_store.specs.Loading.{IsStoreFault, ServesUnlessFailed};
 ghost use Rattle.wu_store.specs.Queues.{AnswersQueue, ChangesQueue, first_marked, is_marked, KeepsQueue, KeepsWorld, marked_text, NotRefusedQueue, with_marks, without_marks};
 ghost use Rattle.wu_store.specs.Answers.{has_name, ShowsLast, was_archived};
 
-use crate::changes::{HostSum, Import};
+use crate::changes::Import;
 use crate::classes::insert_class;
 use crate::texts::{
     DELETE_WORKUNIT, INSERT_ARCHIVED, INSERT_GRANT, INSERT_IMPORT, INSERT_MARKS, INSERT_RESULT,
@@ -29,6 +29,7 @@ use sqlite::types::ValueRef;
 use sqlite::{Alter, Connection, Error, Row, Transaction, params};
 use wu_core::{Archived, Deadline, Fault, Grant, Instance, Marks, Moment, Name, Workunit};
 use wu_rules::Pass;
+use wu_schema::rows::HostSum;
 use wu_schema::{execute, query};
 
 /// Returns a number of the schema as a signed 64-bit number. A number from 2^63 on is an error; the schema has none.

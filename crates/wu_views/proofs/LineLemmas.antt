@@ -15,12 +15,12 @@ use Rattle.wu_core.specs.declared.fault.Fault.{Fault}
 use Rattle.wu_core.specs.declared.workunit.Instance.{Instance}
 use Rattle.wu_schema.specs.Stored.{archived_cells, class_cells, number, number_or_null, parameter_cells}
 use Rattle.wu_schema.specs.Restoring.{Restores}
-use Rattle.wu_schema.specs.Reading.{IsBareInstance, IsProgress, bare_instance_row, columns, kind_cell, progress_cells, verdicts_cell}
+use Rattle.wu_schema.specs.Reading.{IsBareInstance, IsProgress, bare_instance_row, columns, host_row, kind_cell, progress_cells, verdicts_cell}
 use Rattle.wu_schema.specs.declared.rows.Progress.{Progress}
 use Rattle.wu_schema.proofs.ReadingLemmas.{is_bare, not_ok, same_verdicts, whole_row}
 use Rattle.wu_store.proofs.SameWorld.{archived_again, assimilate_again, assimilate_of, delete_again, delete_of, kind_again, kind_of, mask_again, maybe_again, read_archived, read_maybe, read_number, read_text, same_by, same_instances}
-use Rattle.wu_views.specs.Lines.{IsInputLength, IsOutputLength, IsStoredHost, IsStoredImportLine, IsStoredLine, IsStoredResult, bare_instance_of, host_row, import_row, line_row, result_line_of, result_line_row}
-use Rattle.wu_views.specs.declared.lines.HostLine.{HostLine}
+use Rattle.wu_views.specs.Lines.{IsInputLength, IsOutputLength, IsStoredImportLine, IsStoredLine, IsStoredResult, bare_instance_of, import_row, line_row, result_line_of, result_line_row}
+use Rattle.wu_schema.specs.declared.rows.HostSum.{HostSum}
 use Rattle.wu_views.specs.declared.lines.ImportLine.{ImportLine}
 use Rattle.wu_views.specs.declared.lines.ResultLine.{ResultLine}
 use Rattle.wu_views.specs.declared.lines.WorkunitLine.{WorkunitLine}
@@ -59,10 +59,10 @@ same_result r q is =
 -- ---- hosts and what was archived
 
 -- what a row tells of these
-abbrev host_of_row : Row → HostLine
+abbrev host_of_row : Row → HostSum
 host_of_row r = record { name = read_text (column r 0); total = read_number (column r 1); grants = read_number (column r 2) }
 
-pub same_host : (h k : HostLine) → host_row h ≡ host_row k → h ≡ k
+pub same_host : (h k : HostSum) → host_row h ≡ host_row k → h ≡ k
 same_host h k is = ap host_of_row is
 
 pub same_archived : (a b : Archived) → archived_cells a ≡ archived_cells b → a ≡ b
@@ -144,21 +144,6 @@ module _ (row : Row) (n : ℕ) (workunit : List ℕ) (i : Instance) (output : �
     where
       stored : row ≡ result_line_row read_result
       stored = sym (whole_row 11 row long) ∙ (λ k. instance_is.value.0 k ++ (number_is.value.0 k ∷ name_is.value.0 k ∷ output_is.value.0 k ∷ []))
-
--- and three those of this host
-module _ (row : Row) (name : List ℕ) (total grants : ℕ) where
-  abbrev read_host : HostLine
-  read_host = record { name = name; total = total; grants = grants }
-
-  pub host_line_read : length row ≡ 3 → Restores Text IsName (column row 0) (Ok name) → Restores number (λ _. ⊤) (column row 1) (Ok total) → Restores number (λ _. ⊤) (column row 2) (Ok grants) → Restores host_row IsStoredHost row (Ok read_host)
-  host_line_read long name_is total_is grants_are = record {
-    value = (stored, name_is.value.1);
-    found = λ h is same. inl (ap (λ h. Ok h) (same_host read_host h (sym stored ∙ same)));
-    refused = tt;
-  }
-    where
-      stored : row ≡ host_row read_host
-      stored = sym (whole_row 3 row long) ∙ (λ i. name_is.value.0 i ∷ total_is.value.0 i ∷ grants_are.value.0 i ∷ [])
 
 -- and four those of this import
 module _ (row : Row) (kind : ImportKind) (name : List ℕ) (first : ℕ) (verdicts : List ℕ) where

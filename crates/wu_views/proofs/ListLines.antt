@@ -14,13 +14,13 @@ use Rattle.wu_core.specs.declared.workunit.HostClass.{HostClass}
 use Rattle.wu_schema.specs.Refines.{host_of}
 use Rattle.wu_schema.specs.Restoring.{Restores}
 use Rattle.wu_schema.specs.Stored.{archived_cells, class_cells}
-use Rattle.wu_schema.specs.Reading.{columns}
+use Rattle.wu_schema.specs.Reading.{IsStoredHost, IsStoredHostClass, columns, host_row}
 use Rattle.wu_store.proofs.LoadLemmas.{never_unread}
 use Rattle.wu_schema.proofs.ReadingLemmas.{is_bare}
 use Rattle.wu_views.specs.Imports.{imports_in_order}
-use Rattle.wu_views.specs.Lines.{AreHostsNamed, AreImportsStorable, IsOfClass, IsStoredHost, IsStoredImportLine, IsStoredLine, IsStoredResult, archived_lines, class_lines, host_line_of, host_lines, host_row, import_line_of, import_lines, import_row, line_of, line_row, result_line_of, result_line_row, result_lines, workunit_lines}
+use Rattle.wu_views.specs.Lines.{AreHostsNamed, AreImportsStorable, IsStoredImportLine, IsStoredLine, IsStoredResult, archived_lines, class_lines, host_line_of, host_lines, import_line_of, import_lines, import_row, line_of, line_row, result_line_of, result_line_row, result_lines, workunit_lines}
 use Rattle.wu_views.specs.Listings.{IsRowOf, IsRowOfArchived, IsRowOfClass, IsRowOfHost, IsRowOfImport, IsRowOfResult, IsRowOfWorkunit, all_results_shown, archive_of, import_shown, placed_archived_row, result_shown, results_shown, workunit_shown}
-use Rattle.wu_views.specs.declared.lines.HostLine.{HostLine}
+use Rattle.wu_schema.specs.declared.rows.HostSum.{HostSum}
 use Rattle.wu_views.specs.declared.lines.ImportLine.{ImportLine}
 use Rattle.wu_views.specs.declared.lines.ResultLine.{ResultLine}
 use Rattle.wu_views.specs.declared.lines.WorkunitLine.{WorkunitLine}
@@ -102,7 +102,7 @@ module _ {X T : Type 0} (line_of : X → T) (cells : T → Row) (IsLine : T → 
 
 -- ---- hosts
 
-module _ (world : World) (row : Row) (line : HostLine) (is : IsRowOfHost world row line) (r : Result HostLine Fault) (reads : Restores host_row IsStoredHost row r) where
+module _ (world : World) (row : Row) (line : HostSum) (is : IsRowOfHost world row line) (r : Result HostSum Fault) (reads : Restores host_row IsStoredHost row r) where
   pub host_read : IfOk r (λ read. read ≡ line)
   host_read = listed_read (host_line_of world.grants) host_row IsStoredHost same_host (hosts_of world.grants) row line is r reads
 
@@ -124,14 +124,14 @@ module _ (world : World) (row : Row) (line : Archived) (is : IsRowOfArchived wor
 
 -- ---- the classes of hosts
 
-module _ (world : World) (row : Row) (line : HostClass) (is : IsRowOfClass world row line) (r : Result HostClass Fault) (reads : Restores class_cells IsOfClass row r) where
+module _ (world : World) (row : Row) (line : HostClass) (is : IsRowOfClass world row line) (r : Result HostClass Fault) (reads : Restores class_cells IsStoredHostClass row r) where
   pub class_read : IfOk r (λ read. read ≡ line)
-  class_read = listed_read (λ (it : HostClass). it) class_cells IsOfClass same_class world.classes row line is r reads
+  class_read = listed_read (λ (it : HostClass). it) class_cells IsStoredHostClass same_class world.classes row line is r reads
 
   pub class_unrefused : AreClassed world.classes → IfErr r (λ fault. fault ≢ NotAProject)
   class_unrefused can =
       let it = All-contains IsClassed world.classes is.shown can is.there in
-      listed_unrefused (λ (it : HostClass). it) class_cells IsOfClass same_class world.classes row line is r reads (record { host = it.host; class = it.within })
+      listed_unrefused (λ (it : HostClass). it) class_cells IsStoredHostClass same_class world.classes row line is r reads (record { host = it.host; class = it.within })
 
 -- ---- imports
 

@@ -17,7 +17,7 @@ use Rattle.wu_store.specs.Reads.{ReadsClassed}
 use Rattle.wu_store.proofs.AskLemmas.{asks_made, never_err}
 use Rattle.wu_views.specs.Counting.{all_instances}
 use Rattle.wu_views.specs.Lines.{line_of, result_line_of, result_lines, result_lines_of, workunit_lines}
-use Rattle.wu_views.specs.Tallies.{awaited, deadlines_of, decisions_of, earlier, fault_of_count, is_given_up, one_more, with_deadline, with_result, with_workunit}
+use Rattle.wu_views.specs.Tallies.{awaited, deadlines_of, decisions_of, earlier, fault_of_count, is_given_up, one_more, with_deadline, with_result, with_line}
 use Rattle.wu_views.specs.Walking.{IsWalkFault, TakesAll, Walked}
 use Rattle.wu_views.specs.declared.tallies.Deadlines.{Deadlines}
 use Rattle.wu_views.specs.declared.tallies.Decisions.{Decisions}
@@ -43,7 +43,7 @@ abbrev counted_on : Decisions → List Workunit → Decisions
 counted_on it ws =
     record { undecided = fold (λ n w. n + cond (is_undecided w) 1 0) it.undecided ws; given_up = fold (λ n w. n + cond (is_given_up w) 1 0) it.given_up ws }
 
-decisions_taken : (first last : Decisions) (ws : List Workunit) → TakesAll (λ old new line. new ≡ with_workunit old line) first last (map line_of ws) → last ≡ counted_on first ws
+decisions_taken : (first last : Decisions) (ws : List Workunit) → TakesAll (λ old new line. new ≡ with_line old line) first last (map line_of ws) → last ≡ counted_on first ws
 decisions_taken first last [] all = all
 decisions_taken first last (w ∷ ws) (next, one, rest) =
     let undecided = λ (n : ℕ). fold (λ n w. n + cond (is_undecided w) 1 0) n ws in
@@ -132,7 +132,7 @@ deadlines_on it (i ∷ is) = deadlines_on (with_instance it i) is ∙ one_on it 
 -- ---- what is read
 
 -- from none on the numbers are those of the world
-pub decisions_are : (world : World) (last : Decisions) → TakesAll (λ old new line. new ≡ with_workunit old line) (record { undecided = 0; given_up = 0 }) last (workunit_lines world) → last ≡ decisions_of world
+pub decisions_are : (world : World) (last : Decisions) → TakesAll (λ old new line. new ≡ with_line old line) (record { undecided = 0; given_up = 0 }) last (workunit_lines world) → last ≡ decisions_of world
 decisions_are world last all = decisions_taken (record { undecided = 0; given_up = 0 }) last world.workunits all
 
 pub deadlines_are : (now : ℕ) (world : World) (last : Deadlines) → TakesAll (λ old new line. new ≡ with_result old line) (record { now = now; overdue = 0; next = None }) last (result_lines world) → last ≡ deadlines_of now world

@@ -19,11 +19,11 @@ use Rattle.wu_core.specs.World.{Import, World, is_import}
 use Rattle.wu_rules.specs.Instances.{is_in_progress, is_over, is_unsent}
 use Rattle.wu_schema.specs.Reading.{kind_cell, verdicts_cell}
 use Rattle.wu_schema.specs.declared.rows.StoredImport.{StoredImport}
-use Rattle.wu_schema.specs.Stored.{host_cells, number, number_or_null, parameter_cells, text_or_null}
+use Rattle.wu_schema.specs.Stored.{number, number_or_null, parameter_cells, text_or_null}
 use Rattle.wu_core.specs.Storable.{AreVerdicts, IsClass, IsName, IsPlace, IsStamped, IsStoredInstance}
 use Rattle.wu_views.specs.Counting.{all_instances}
 use Rattle.wu_views.specs.Imports.{imports_in_order}
-use Rattle.wu_views.specs.declared.lines.HostLine.{HostLine}
+use Rattle.wu_schema.specs.declared.rows.HostSum.{HostSum}
 use Rattle.wu_views.specs.declared.lines.ImportLine.{ImportLine}
 use Rattle.wu_views.specs.declared.lines.ResultLine.{ResultLine}
 use Rattle.wu_views.specs.declared.lines.Summary.{Summary}
@@ -81,11 +81,11 @@ result_lines world = flat_map result_lines_of world.workunits
 -- ---- hosts
 
 -- The values of a host's line.
-abbrev pub host_line_of : List Grant → List ℕ → HostLine
+abbrev pub host_line_of : List Grant → List ℕ → HostSum
 host_line_of grants host = record { name = host; total = credit_of grants host; grants = grants_of grants host }
 
 -- The lines of the hosts that have grants, in the order of their names' bytes.
-abbrev pub host_lines : World → List HostLine
+abbrev pub host_lines : World → List HostSum
 host_lines world = map (host_line_of world.grants) (hosts_of world.grants)
 
 -- ---- the archive
@@ -201,18 +201,6 @@ pub record IsStoredResult (r : ResultLine) : Type 0 where
   pub n : r.n < 2 ^ 32
   pub instance : IsStoredInstance (bare_instance_of r)
   pub output : IsOutputLength r.output
-
--- A row of the table of hosts.
-abbrev pub host_row : HostLine → Row
-host_row host = host_cells host.name host.total host.grants
-
-abbrev pub IsStoredHost : HostLine → Type 0
-IsStoredHost host = IsName host.name
-
--- The host has a valid name, and its class is in range.
-pub record IsOfClass (it : HostClass) : Type 0 where
-  pub host : IsName it.host
-  pub class : IsClass it.class
 
 -- A row of the view of imports: the kind, the name, the first number and the verdicts.
 abbrev pub import_row : ImportLine → Row

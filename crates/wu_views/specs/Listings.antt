@@ -20,7 +20,7 @@ use Rattle.wu_schema.specs.Stored.{archived_cells, class_cells, number}
 use Rattle.wu_store.specs.StandsFor.{KnowsClasses}
 use Rattle.wu_views.specs.Imports.{imports_in_order}
 use Rattle.wu_views.specs.Lines.{host_line_of, import_line_of, import_row, line_of, line_row, result_line_of, result_line_row}
-use Rattle.wu_views.specs.declared.lines.HostLine.{HostLine}
+use Rattle.wu_schema.specs.declared.rows.HostSum.{HostSum}
 use Rattle.wu_views.specs.declared.lines.ImportLine.{ImportLine}
 use Rattle.wu_views.specs.declared.lines.ResultLine.{ResultLine}
 use Rattle.wu_views.specs.declared.lines.WorkunitLine.{WorkunitLine}
@@ -77,7 +77,7 @@ pub record IsRowOfResult (world : World) (row : Row) (line : ResultLine) : Type 
 -- ---- hosts
 
 -- The row and the line are those of a host of the world.
-abbrev pub IsRowOfHost : World → Row → HostLine → Type 0
+abbrev pub IsRowOfHost : World → Row → HostSum → Type 0
 IsRowOfHost world = IsRowOf (host_of world.grants) (host_line_of world.grants) (hosts_of world.grants)
 
 -- ---- the archive

@@ -47,8 +47,8 @@ abbrev pub is_undecided_line : WorkunitLine → Bool
 is_undecided_line line = is_none line.canonical && is_clear line.error_mask
 
 -- The numbers with the workunit of this line.
-abbrev pub with_workunit : Decisions → WorkunitLine → Decisions
-with_workunit it line =
+abbrev pub with_line : Decisions → WorkunitLine → Decisions
+with_line it line =
     record { undecided = one_more it.undecided (is_undecided_line line); given_up = one_more it.given_up (not (is_clear line.error_mask)) }
 
 abbrev pub deadline_in_progress : ResultLine → Option ℕ

@@ -17,7 +17,7 @@ mod walking;
 
 pub use counts::summary;
 pub use failures::HostFailures;
-pub use lines::{HostLine, ImportLine, ResultLine, Summary, WorkunitLine};
+pub use lines::{ImportLine, ResultLine, Summary, WorkunitLine};
 pub use listings::{
     ArchiveListing, ClassListing, HostListing, ImportListing, Listing, ResultListing,
     WorkunitListing,

@@ -2,19 +2,19 @@
 
 ghost use Rattle.std.specs.Prelude.{◌≡◌};
 ghost use Rattle.sqlite.specs.Order.{column};
-ghost use Rattle.wu_views.specs.Lines.{host_row, import_row, IsInputLength, IsOfClass, IsOutputLength, IsStoredHost, IsStoredImportLine};
+ghost use Rattle.wu_views.specs.Lines.{import_row, IsInputLength, IsOutputLength, IsStoredImportLine};
 ghost use Rattle.wu_schema.specs.Restoring.{Restores};
-ghost use Rattle.wu_schema.specs.Stored.{class_cells, number};
+ghost use Rattle.wu_schema.specs.Stored.{number};
 
 use sqlite::Row;
 use std::alloc::Global;
 use wu_core::{
-    Assimilate, Bytes, Deadline, ErrorMask, Fault, FileDelete, HostClass, ImportKind, Instance,
-    LONGEST_INPUT, LONGEST_OUTPUT, Moment, Name, Outcome, Params, ServerState, ValidateState,
+    Assimilate, Bytes, Deadline, ErrorMask, Fault, FileDelete, ImportKind, Instance, LONGEST_INPUT,
+    LONGEST_OUTPUT, Moment, Name, Outcome, Params, ServerState, ValidateState,
 };
 use wu_schema::number_at;
 use wu_schema::rows::{
-    bare_instance_from, class_at, instance_number_at, kind_at, name_at, params_from, progress_from,
+    bare_instance_at, class_at, instance_number_at, kind_at, name_at, params_from, progress_from,
     verdicts_at,
 };
 
@@ -147,7 +147,7 @@ impl ResultLine {
             deadline,
             received_at,
             output: _,
-        } = bare_instance_from(alloc, row)?;
+        } = bare_instance_at(alloc, row, 0)?;
         Ok(ResultLine {
             workunit,
             n,
@@ -162,49 +162,6 @@ impl ResultLine {
             output,
         })
     }
-}
-
-/// What the view of hosts shows of one.
-#[derive(Drop)]
-pub struct HostLine {
-    pub name: Name,
-    /// The credit of all its grants.
-    pub total: u64,
-    /// How many grants it has.
-    pub grants: u64,
-}
-
-/// Reads the line of the host of a row of the table `host` with its columns in their order.
-pub(crate) fn host_from(alloc: Global, row: &Row) -> Result<HostLine, Fault>
-    // A row of a name and two numbers is read as that host's line, or out of memory; any other row
-    // is refused.
-    ensures { Restores host_row IsStoredHost row.now result }
-{
-    if row.column_count() != 3 {
-        return Err(Fault::NotAProject);
-    }
-    let total = number_at(row, 1)?;
-    let grants = number_at(row, 2)?;
-    let name = name_at(alloc, row, 0)?;
-    Ok(HostLine {
-        name,
-        total,
-        grants,
-    })
-}
-
-/// Reads the host of a row of the table `host_class` with its columns in their order, and its class.
-pub(crate) fn class_from(alloc: Global, row: &Row) -> Result<HostClass, Fault>
-    // A row of a name and a class is read as that host and class, or out of memory; any other row
-    // is refused.
-    ensures { Restores class_cells IsOfClass row.now result }
-{
-    if row.column_count() != 2 {
-        return Err(Fault::NotAProject);
-    }
-    let class = class_at(row, 1)?;
-    let host = name_at(alloc, row, 0)?;
-    Ok(HostClass { host, class })
 }
 
 /// What the view of imports shows of one.

@@ -1,9 +1,9 @@
 //! How the workunits and the instances of a project stand, counted line by line.
 
-ghost use Rattle.std.specs.Prelude.{◌≡◌, ◌+◌, IfErr, IfOk, IsOkUnless};
+ghost use Rattle.std.specs.Prelude.{◌≡◌, ◌+◌, IfOk, IsOkUnless};
 ghost use Rattle.wu_core.specs.declared.fault.Fault.TheVariants.{Output};
 ghost use Rattle.wu_core.specs.Storable.{AreStorable};
-ghost use Rattle.wu_store.specs.Loading.{IsStoreFault, ServesUnlessFailed};
+ghost use Rattle.wu_store.specs.Loading.{ServesUnlessFailed};
 ghost use Rattle.wu_store.specs.Reads.{FindsAt, ReadsClassed};
 ghost use Rattle.wu_views.specs.Tallies.{deadline_in_progress, deadlines_of, decisions_of, earlier, fault_of_count, is_undecided_line, one_more};
 
@@ -59,9 +59,9 @@ fn is_undecided(line: &WorkunitLine) -> bool
 
 impl Takes<WorkunitLine> for Decisions {
     ghost use Rattle.std.specs.Prelude.{⊤};
-    ghost use Rattle.wu_views.specs.Tallies.{with_workunit};
+    ghost use Rattle.wu_views.specs.Tallies.{with_line};
 
-    ghost takes = { λ old new line. new ≡ with_workunit old line };
+    ghost takes = { λ old new line. new ≡ with_line old line };
 
     ghost refuses = { λ old new line. ⊤ };
 

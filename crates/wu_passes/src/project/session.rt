@@ -8,8 +8,8 @@ ghost use Rattle.wu_machine.specs.Commands.{request_of};
 ghost use Rattle.wu_machine.specs.Sound.{IsProject};
 ghost use Rattle.wu_store.specs.Loading.{ServesUnlessFailed, StaysUnlessFailed};
 ghost use Rattle.wu_passes.specs.Standing.{IsCutBy};
-ghost use Rattle.wu_passes.specs.Adopting.{Adopts, KnowsVersion, older_than_present, RefusesAdoption, StartsOver, TellsNew};
-ghost use Rattle.wu_passes.specs.Projects.{AnswersEnded, CarriesOut, CarriesOutFrom, connection_of, FailsAgain, GoesOnAgain, IsSessionOpen, has_ended, is_new, IsSessionEnded, KeepsAsking, KeepsSession, KeepsVersion, KnowsTables, LeavesIdle, LeavesUntouched, PlansOn, RefusesEarly, RunsOver, refused_for, ServesOn, ServesRight, older_version, state_of, TellsWhy};
+ghost use Rattle.wu_passes.specs.Adopting.{Adopts, KnowsVersion, older_than_present, RefusesAdoption, TellsNew};
+ghost use Rattle.wu_passes.specs.Projects.{AnswersEnded, BeginsSession, CarriesOut, CarriesOutFrom, connection_of, FailsAgain, GoesOnAgain, IsSessionOpen, has_ended, is_new, IsSessionEnded, KeepsAsking, KeepsSession, KeepsVersion, LeavesIdle, LeavesUntouched, PlansOn, RefusesEarly, RunsOver, refused_for, ServesOn, ServesRight, older_version, state_of, TellsWhy};
 
 use crate::commit::change_all;
 use crate::project::Project;
@@ -162,14 +162,12 @@ impl<S: Alter> Project<S> {
     pub fn adopt(mut conn: Connection<S>) -> Result<Self, (Connection<S>, Fault)>
         // A connection inside a transaction comes back as it was, with `NotAProject`.
         ensures busy { conn.in_transaction ≡ true → result ≡ Err (conn, Fault.NotAProject) }
-        // A session that begins has not ended.
-        ensures begins { IfOk result IsSessionOpen }
         // A project that was there is found, of a known version, and is not touched. If there was
         // none, its tables are made beside all else that is there, and represent the empty world.
-        // If a crash could leave only the tables of one world, the session goes on over that world.
-        // The connection was open and still is, without a limit on steps. A crash leaves what it
-        // could have left before, or the fresh project.
-        ensures adopted { IfOk result (λ project. Adopts (state S.Store conn) (state_of project)) }
+        // The session that begins over it has not ended. It knows the version of the world that the
+        // tables represent, and whether the project is new. The connection was in no transaction;
+        // it was open and still is, without a limit on steps.
+        ensures session { IfOk result (BeginsSession S.Store conn) }
         // The fault is one of the store, or `NewSchema` of a later version that is stored. `Broken`
         // means that the disk failed in this call, or that the connection was not open. If there
         // was no project, the fault is `NotAProject`, `Memory` or such a `Broken`. If the table
@@ -180,15 +178,6 @@ impl<S: Alter> Project<S> {
         // `Broken`, or if it was inside a transaction.
         ensures refused { IfErr result (λ refusal.
             RefusesAdoption (state S.Store conn) (state S.Store refusal.0) refusal.1) }
-        // If the project found has an older version, the session is over that version; otherwise it
-        // is over no older one.
-        ensures version { IfOk result (λ project.
-            StartsOver (state S.Store conn) (state_of project) (older_version project)) }
-        // Whatever world the tables represent, the session knows the version of it.
-        ensures knows { IfOk result KnowsTables }
-        // The project is new if there was none before.
-        ensures new { IfOk result (λ project.
-            TellsNew (state S.Store conn) (state_of project) (is_new project)) }
     {
         match find_or_create(&mut conn) {
             Ok((version, is_new)) => Ok(Project {
@@ -246,23 +235,14 @@ impl<S: Alter> Project<S> {
     /// If a fault ended it and left the connection open, the new one goes on over the world from before the cut
     /// command. Then only `Memory` and `Broken` refuse it.
     pub fn begin_again(self) -> Result<Self, (Connection<S>, Fault)>
-        // A session that begins has not ended.
-        ensures begins { IfOk result IsSessionOpen }
-        // A project that was there is found, of a known version, and is not touched. If there was
-        // none, its tables are made beside all else that is there, and represent the empty world.
-        // The connection was open and still is, without a limit on steps.
-        ensures adopted { IfOk result (λ project. Adopts (state_of self) (state_of project)) }
+        // A session begins as at an adoption of the connection. It has not ended, and knows the
+        // version of the world that the tables represent.
+        ensures session { IfOk result (BeginsSession S.Store (connection_of self)) }
         // The fault is one of the store, or a later version that is stored. `NotAProject` leaves
         // all as it was, and a project that was there is not touched. An open connection shows what
         // it showed, or the last commit.
         ensures refused { IfErr result (λ refusal.
             RefusesAdoption (state_of self) (state S.Store refusal.0) refusal.1) }
-        // If the project found has an older version, the session is over that version; otherwise it
-        // is over no older one.
-        ensures version { IfOk result (λ project.
-            StartsOver (state_of self) (state_of project) (older_version project)) }
-        // Whatever world the tables represent, the session knows the version of it.
-        ensures knows { IfOk result KnowsTables }
         // If a fault ended the old session and left its connection open, the new session goes on
         // over the world from before the cut command.
         ensures goes { IfOk result (GoesOnAgain self) }

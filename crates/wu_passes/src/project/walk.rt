@@ -4,9 +4,10 @@ use crate::project::Project;
 use sqlite::Alter;
 use std::alloc::Global;
 use wu_core::{Archived, Fault, HostClass};
+use wu_schema::rows::HostSum;
 use wu_views::{
-    ArchiveListing, ClassListing, HostLine, HostListing, ImportLine, ImportListing, Listing,
-    ResultLine, ResultListing, Takes, WorkunitLine, WorkunitListing, walk,
+    ArchiveListing, ClassListing, HostListing, ImportLine, ImportListing, Listing, ResultLine,
+    ResultListing, Takes, WorkunitLine, WorkunitListing, walk,
 };
 
 impl<S: Alter> Project<S> {
@@ -72,7 +73,7 @@ impl<S: Alter> Project<S> {
     }
 
     /// Hands on the lines of all hosts that have grants, in order of their names' bytes, as `walk` does.
-    pub fn walk_hosts<K: Takes<HostLine>>(
+    pub fn walk_hosts<K: Takes<HostSum>>(
         &mut self,
         alloc: Global,
         taker: &mut K,

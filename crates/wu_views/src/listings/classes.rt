@@ -1,11 +1,11 @@
 //! What the view of the classes of hosts lists.
 
-use crate::lines::class_from;
 use crate::listings::Listing;
 use crate::texts::LIST_CLASSES;
 use sqlite::{Alter, Row};
 use std::alloc::Global;
 use wu_core::{Fault, HostClass};
+use wu_schema::rows::host_class_from;
 
 /// The hosts that a file named, each with its class, in order of their names' bytes.
 pub struct ClassListing;
@@ -28,6 +28,6 @@ impl Listing for ClassListing {
     }
 
     fn read(alloc: Global, row: &Row) -> Result<HostClass, Fault> {
-        class_from(alloc, row)
+        host_class_from(alloc, row)
     }
 }

@@ -1,11 +1,11 @@
 //! What the view of hosts lists.
 
-use crate::lines::{HostLine, host_from};
 use crate::listings::Listing;
 use crate::texts::LIST_HOSTS;
 use sqlite::{Alter, Row};
 use std::alloc::Global;
 use wu_core::Fault;
+use wu_schema::rows::{HostSum, host_from};
 
 /// The hosts that have grants, in order of their names' bytes.
 pub struct HostListing;
@@ -14,7 +14,7 @@ impl Listing for HostListing {
     ghost use Rattle.wu_views.specs.Lines.{AreHostsNamed, host_lines};
     ghost use Rattle.wu_views.specs.Listings.{IsRowOfHost};
 
-    type Item = HostLine;
+    type Item = HostSum;
 
     ghost lines = { host_lines };
 
@@ -26,7 +26,7 @@ impl Listing for HostListing {
         LIST_HOSTS
     }
 
-    fn read(alloc: Global, row: &Row) -> Result<HostLine, Fault> {
+    fn read(alloc: Global, row: &Row) -> Result<HostSum, Fault> {
         host_from(alloc, row)
     }
 }

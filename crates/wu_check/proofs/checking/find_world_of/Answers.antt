@@ -1,6 +1,6 @@
 use Rattle.wu_schema.proofs.Words.{Err, Ok, Schema, arith, inr, state, subst, sym}
 use Rattle.wu_schema.specs.Tables.{HasTables, IsClassedVersion}
-use Rattle.wu_check.specs.Findings.{IsBasisOf, TellsLater}
+use Rattle.wu_check.specs.Findings.{IsBasisOf, TellsLaterFirst}
 use Rattle.wu_check.specs.declared.checking.Basis.TheVariants as basis
 use Rattle.wu_check.specs.declared.finding.Finding.{Finding}
 use Rattle.wu_check.proofs.ExamineLemmas.{FindsOf, TellsOfVersion, lacks, examines_fault, examines_later, examines_made, examines_row, examines_world, first_there, serves_then}
@@ -77,5 +77,5 @@ returns-in_ok-finding-in-Wrong-clause-later g c =
     let row = c.in_ok-found-in-Wrong.ensures.examines.asks in
     later_then g.S.Store c.args.conn.now c.load_world.new.conn c.unless_later-in-Wrong.new.conn c.in_ok-loaded.field-0 c.in_ok-loaded.ensures.asks (Ok c.in_ok-finding-in-Wrong.finding)
     (asks_then g.S.Store c.load_world.new.conn c.finding_of_row.new.conn c.unless_later-in-Wrong.new.conn c.in_ok-found-in-Wrong.found row (Ok c.in_ok-finding-in-Wrong.finding) last)
-    TellsLater
-    (later_then g.S.Store c.load_world.new.conn c.finding_of_row.new.conn c.unless_later-in-Wrong.new.conn c.in_ok-found-in-Wrong.found row (Ok c.in_ok-finding-in-Wrong.finding) last TellsLater c.in_ok-finding-in-Wrong.ensures.later)
+    TellsLaterFirst
+    (later_then g.S.Store c.load_world.new.conn c.finding_of_row.new.conn c.unless_later-in-Wrong.new.conn c.in_ok-found-in-Wrong.found row (Ok c.in_ok-finding-in-Wrong.finding) last TellsLaterFirst c.in_ok-finding-in-Wrong.ensures.later)

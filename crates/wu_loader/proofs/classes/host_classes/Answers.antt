@@ -1,7 +1,7 @@
 use Rattle.wu_schema.proofs.Words.{IsPermutation, IsPermutation-map, IsPermutation-sym, IsPermutation-trans, arith, class_cells, inl, inr, map, refl, subst, sym, ◌+◌, ◌-◌, ◌∙◌, ◌≡◌}
 use Rattle.std.proofs.lemmas.List.Sorted.{All-permutation}
 use Rattle.wu_loader.specs.Classing.{by_host, AreRising}
-use Rattle.wu_loader.specs.Rows.{IsStoredHostClass}
+use Rattle.wu_schema.specs.Reading.{IsStoredHostClass}
 use Rattle.wu_loader.specs.Whole.{IsNotAbove}
 use Rattle.wu_loader.proofs.ClassLemmas.{rising_in_order, rising_must}
 use Rattle.wu_loader.proofs.WholeLemmas.{handed, none_permuted, rows_plain, sorted_rows}

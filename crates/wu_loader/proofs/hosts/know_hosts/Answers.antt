@@ -2,7 +2,7 @@ use Rattle.wu_schema.proofs.Words.{IsPermutation, IsPermutation-map, IsPermutati
 use Rattle.wu_core.specs.Hosts.{hosts_of}
 use Rattle.wu_schema.specs.Refines.{host_of}
 use Rattle.wu_loader.specs.Granting.{by_name, referred, AreHosts, IsWrongHost}
-use Rattle.wu_loader.specs.Rows.{host_row, IsStoredHost}
+use Rattle.wu_schema.specs.Reading.{host_row, IsStoredHost}
 use Rattle.wu_loader.proofs.GrantLemmas.{hosts_are, hosts_must, never_hosts}
 use Rattle.wu_loader.proofs.RunLemmas.{hosts_moved, wrong_moved}
 use Rattle.wu_loader.proofs.WholeLemmas.{handed, rows_plain, sorted_rows}

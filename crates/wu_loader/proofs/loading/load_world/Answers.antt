@@ -2,8 +2,8 @@ use Rattle.wu_schema.proofs.Words.{Database, Err, HasTables, IsDatabase, Ok, inr
 use Rattle.wu_core.specs.declared.fault.Fault.TheVariants.{Memory}
 use Rattle.wu_schema.proofs.AskingLemmas.{asks_made, asks_unchanged}
 use Rattle.wu_store.proofs.PlacedLemmas.{world_rises}
-use Rattle.wu_loader.specs.Asked.{HasArranged, Looks}
-use Rattle.wu_loader.specs.Shown.{Shows}
+use Rattle.wu_loader.specs.Asked.{HasArranged, LooksAtTables}
+use Rattle.wu_loader.specs.Shown.{ShowsTables}
 use Rattle.wu_loader.specs.Worlds.{AreRowsOf}
 use Rattle.wu_loader.specs.declared.finding.Found.{Found}
 use Rattle.wu_loader.specs.declared.finding.Found.TheVariants as found
@@ -14,7 +14,7 @@ use Rattle.wu_loader.proofs.loading.load_world.Goals as goal
 use Rattle.wu_loader.proofs.loading.load_world.Goals.{After-from_residual}
 
 -- a fault of the questions is handed on
-handed : (g : Given.Over) (c : After-from_residual g) → Looks {T = Found} c.args.version g.S.Store c.args.conn.now c.table_rows.new.conn c.from_residual.result (λ db trees found. Unit {0})
+handed : (g : Given.Over) (c : After-from_residual g) → LooksAtTables {T = Found} c.args.version g.S.Store c.args.conn.now c.table_rows.new.conn c.from_residual.result (λ db trees found. Unit {0})
 handed g c = looks_fault c.args.version g.S.Store c.args.conn.now c.table_rows.new.conn c.in_err-rows.field-0.0 _ (λ db trees found. Unit {0}) c.in_err-rows.ensures c.from_residual.result c.from_residual.ensures.1
 
 pub returns-in_err-rows-clause-asks : goal.returns-in_err-rows-clause-asks
@@ -48,7 +48,7 @@ returns-in-Err-Wrong-clause-none g c clean world readable is stands =
     let db : Database = (state g.S.Store c.args.conn.now).now in
     let shown = c.in_ok-rows.ensures.says clean stands.trees (subst (λ v. HasArranged v db stands.trees) is (record { tables = stands.tables; arranged = stands_arranged db stands.trees world stands.rows })) in
     let none = rw c.in-Err-Wrong.field-0-is at c.in-Err-Wrong.ensures.none in
-    none world readable (world_rises db world stands) (subst (λ v. AreRowsOf v c.in_ok-rows.rows world) is (stands_shown db stands.trees world stands.rows c.in_ok-rows.rows (subst (λ v. Shows v db.trees stands.trees c.in_ok-rows.rows) (sym is) shown)))
+    none world readable (world_rises db world stands) (subst (λ v. AreRowsOf v c.in_ok-rows.rows world) is (stands_shown db stands.trees world stands.rows c.in_ok-rows.rows (subst (λ v. ShowsTables v db.trees stands.trees c.in_ok-rows.rows) (sym is) shown)))
 
 pub returns-in-Err-Wrong-clause-asks : goal.returns-in-Err-Wrong-clause-asks
 returns-in-Err-Wrong-clause-asks g c = asks_made g.S.Store c.args.conn.now c.table_rows.new.conn c.in_ok-rows.rows (Ok (found.Wrong c.in-Err-Wrong.wrong)) (never_broken (found.Wrong c.in-Err-Wrong.wrong)) c.in_ok-rows.ensures.asks

@@ -1,6 +1,6 @@
 use Rattle.wu_schema.proofs.Words.{IsPermutation-sym}
 use Rattle.wu_loader.specs.Granting.{by_name, referred, IsUngranted, Rise}
-use Rattle.wu_loader.specs.Rows.{host_row, IsStoredHost}
+use Rattle.wu_schema.specs.Reading.{host_row, IsStoredHost}
 use Rattle.wu_loader.proofs.TotalLemmas.{other_found}
 use Rattle.wu_loader.proofs.WholeLemmas.{sorted_rows}
 use Rattle.wu_loader.proofs.totals.sums_from.Goals as goal

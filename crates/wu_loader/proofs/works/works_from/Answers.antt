@@ -1,10 +1,10 @@
 use Rattle.wu_schema.proofs.Words.{ℕ, List, Row, Workunit, inl, inr, map, subst, sym, workunit_row, ◌∙◌, ◌≡◌}
+use Rattle.wu_store.specs.Loading.{classless}
 use Rattle.std.specs.Prelude.{All}
 use Rattle.wu_core.specs.Storable.{IsStoredWorkunit}
 use Rattle.wu_loader.specs.Whole.{rows_of, IsNoRow}
 use Rattle.wu_loader.specs.Wrongs.{AreWorkunits}
 use Rattle.wu_schema.proofs.ReadLemmas.{if_ok}
-use Rattle.wu_loader.specs.Classing.{unclassed}
 use Rattle.wu_loader.specs.Dealing.{by_place, AreDealt}
 use Rattle.wu_loader.specs.Rows.{placed_row, IsStoredPlaced}
 use Rattle.wu_loader.proofs.WholeLemmas.{handed, refused, rows_plain, sorted_rows}
@@ -51,7 +51,7 @@ returns-clause-results c =
 pub returns-clause-none : goal.returns-clause-none
 returns-clause-none c =
     refused c.deal.result _ _ (λ wrong none works ordered storable are.
-    none (map unclassed works) (ordered_unclassed works ordered) (works_dealt c.args.rows.items c.args.instances.items c.in_ok-workunits.workunits.items (sym c.deref.ensures.value ∙ c.in_ok-workunits.ensures.same) c.in_ok-placed.placed.items c.from-queue.result.items (sym c.deref-2.ensures.value ∙ c.in_ok-placed.ensures.same) (rw c.from-queue.ensures.0 c.in_ok-sort.ensures.same) c.in_ok-workunits.ensures.each (rw c.from-queue.ensures.0 c.in_ok-sort.ensures.sorted) works ordered storable are)) c.deal.ensures.none
+    none (map classless works) (ordered_unclassed works ordered) (works_dealt c.args.rows.items c.args.instances.items c.in_ok-workunits.workunits.items (sym c.deref.ensures.value ∙ c.in_ok-workunits.ensures.same) c.in_ok-placed.placed.items c.from-queue.result.items (sym c.deref-2.ensures.value ∙ c.in_ok-placed.ensures.same) (rw c.from-queue.ensures.0 c.in_ok-sort.ensures.same) c.in_ok-workunits.ensures.each (rw c.from-queue.ensures.0 c.in_ok-sort.ensures.sorted) works ordered storable are)) c.deal.ensures.none
 
 pub returns-in_err-workunits-clause-told : goal.returns-in_err-workunits-clause-told
 returns-in_err-workunits-clause-told c = handed c.from_residual.result c.in_err-workunits.field-0.0 _ _ (λ wrong none. inl (none.0, no_workunit c.deref.ensures.value none.1)) c.from_residual.ensures.1 c.in_err-workunits.ensures.none

@@ -1,5 +1,6 @@
 use Rattle.wu_schema.proofs.Words.{IsPermutation, List, Option, Row, class_cells, inl, inr, map, subst, sym, workunit_row, ◌∙◌, ◌≡◌}
-use Rattle.wu_loader.specs.Rows.{classed_row, IsStoredClass, IsStoredHostClass}
+use Rattle.wu_loader.specs.Rows.{classed_row, IsStoredClass}
+use Rattle.wu_schema.specs.Reading.{IsStoredHostClass}
 use Rattle.wu_loader.specs.Whole.{IsNoRow}
 use Rattle.wu_loader.specs.Worlds.{AreAnyClassRowsOf, HasClassesOf}
 use Rattle.std.specs.Prelude.{All}

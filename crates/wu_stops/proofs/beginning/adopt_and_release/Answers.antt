@@ -5,9 +5,9 @@ use Rattle.wu_stops.proofs.beginning.adopt_and_release.Goals as goal
 
 pub returns-in-Ok : goal.returns-in-Ok
 returns-in-Ok g c = subst (λ h. LeavesAdopted (state g.S.Store c.args.conn) (state g.S.Store h)) (sym c.release.ensures.same) (record {
-  clean = c.in-Ok.ensures.adopted.clean;
-  left = c.in-Ok.ensures.adopted.left;
-  goes = λ clean world first goes. (c.in-Ok.ensures.adopted.goes clean world first goes).0;
+  clean = c.in-Ok.ensures.session.adopts.clean;
+  left = c.in-Ok.ensures.session.adopts.left;
+  goes = λ clean world first goes. (c.in-Ok.ensures.session.adopts.goes clean world first goes).0;
 })
 
 pub returns-in-Err : goal.returns-in-Err

@@ -1,5 +1,4 @@
 use Rattle.std.proofs.Common.{inl, inr, refl, Err}
-use Rattle.std.proofs.lemmas.Bool.{cases_Bool}
 use Rattle.wu_cli.proofs.WorkLemmas.{drives_over, prints_over, same_refusal}
 use Rattle.wu_cli.specs.declared.trouble.Trouble.TheVariants.{Fault}
 use Rattle.wu_cli.proofs.work.Work.perform_over.Goals as goal
@@ -8,11 +7,7 @@ pub returns-in-Ok-clause-does : goal.returns-in-Ok-clause-does
 returns-in-Ok-clause-does g c = inl (record {
   old = c.in-Ok.project;
   new = c.perform-done.new.project;
-  idle = elim (cases_Bool c.args.conn.in_transaction) [ inl busy ↦ absurd (let no = c.in-Ok.ensures.busy busy in cc) | inr idle ↦ idle ];
-  begins = c.in-Ok.ensures.begins;
-  adopts = c.in-Ok.ensures.adopted;
-  version = c.in-Ok.ensures.version;
-  knows = c.in-Ok.ensures.knows;
+  begins = c.in-Ok.ensures.session;
   does = c.perform-done.ensures;
   released = c.release.ensures.same;
 })

@@ -9,5 +9,5 @@ returns-in_err-workunit c = column_unread (λ (p : Placed). p.workunit) c.args.r
 pub returns-in_err-n : goal.returns-in_err-n
 returns-in_err-n c = column_unread (λ (p : Placed). p.n) c.args.row.now 1 (λ p is. tt) (λ t. refl) c.in_err-n.ensures c.from_residual-in_err-n.result c.from_residual-in_err-n.ensures.1
 
-pub returns-then-is_formed : goal.returns-then-is_formed
-returns-then-is_formed c = placed_reads c.args.row.now _ (search rules) c.in_ok-workunit.ensures c.in_ok-n.ensures c.in_ok-instance.ensures (search rules)
+pub returns : goal.returns
+returns c = placed_reads c.args.row.now _ (search rules) c.in_ok-workunit.ensures c.in_ok-n.ensures c.in_ok-instance.ensures
