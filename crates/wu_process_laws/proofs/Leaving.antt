@@ -71,7 +71,7 @@ use Rattle.wu_process.specs.Opening.{IsOpenedAt}
 use Rattle.wu_process.specs.Running.{ExportsIfDone, TellsTrouble}
 use Rattle.wu_process.specs.declared.End.{End}
 use Rattle.wu_process.specs.declared.database.LeftDatabase.TheVariants as left
-use Rattle.wu_process_laws.specs.Runs.{BeginsWhereOneEnded, BeginsWhereOneStopped, done_by, done_by_unclosed, HoldAfter, HoldAfterOneMore, Holds, LeavesAsItWas, LeavesDone, LeavesItsDone, LeavesItsDoneOrMore, LeavesItsWork, LeavesItsWorkUnclosed, OfEachImage, ImageRefines, TellsDone, TellsText}
+use Rattle.wu_process_laws.specs.Runs.{done_by, done_by_unclosed, HoldAfter, HoldAfterOneMore, Holds, LeavesAsItWas, LeavesDone, LeavesItsWork, LeavesItsWorkUnclosed, OfEachImage, ImageRefines, TellsDone, TellsText}
 
 -- ---- statuses
 
@@ -392,35 +392,3 @@ module _ {S W E : Type 0} {c : calls.Ghosts Host} {s : start.Ghosts S} {g : Ghos
       opened_leaves HoldAfterOneMore conn it.again _ runs.work run.old opens.mid opens.first end.status run.close.files opens.does.opened it.does has
       (unclosed_clean it.again run.close.store it.closed.quiet run.close.numbered run.close.files run.close.files_are honest) each
       (λ world works. hold_one_more it.again run.close.files each world (commands_of_work world runs.work works.ran) works.answers works.count works.is_cut works.drives)
-
--- ---- one after another
-
-module _ {S T W E : Type 0} {c d : calls.Ghosts Host} {s : start.Ghosts S} {t : start.Ghosts T} {g : Ghosts (Modelled Host S c s)} {h : Ghosts (Modelled Host T d t)} (stays : SeenMayStay g) (still : SeenMayStay h)
-    (contents : W → Option (List ℕ)) (told_of : E → Option (List ℕ)) where
-  pub begins_where_one_ended : (first : End (Modelled Host S c s) g) (second : End (Modelled Host T d t) h) → BeginsWhereOneEnded contents told_of first second
-  begins_where_one_ended first second one two may =
-      let left : LeavesItsDone contents told_of first one = leaves_its_work stays contents told_of first one in
-      let next : LeavesItsDone contents told_of second two = leaves_its_work still contents told_of second two in
-      record {
-        left = left;
-        next = next;
-        done = λ honest world it. ∥∥₁_map (it.held (image_at t) may) (λ after. next honest _ after.project (inl after.held));
-        kept = λ honest world project held it. ∥∥₁_map (it.held held (image_at t) may) (λ still_held. next honest world project (inl still_held));
-      }
-
-  pub begins_where_one_stopped : (first : End (Modelled Host S c s) g) (second : End (Modelled Host T d t) h) → BeginsWhereOneStopped contents told_of first second
-  begins_where_one_stopped first second one two may =
-      let left : LeavesItsDoneOrMore contents told_of first one = leaves_its_work_unclosed stays contents told_of first one in
-      let next : LeavesItsDone contents told_of second two = leaves_its_work still contents told_of second two in
-      record {
-        left = left;
-        next = next;
-        done = λ honest world it. ∥∥₁_map (it.held (image_at t) may) (λ found. record {
-          kept = found.kept;
-          within = found.within;
-          has_done = found.has_done;
-          at_most_one_more = found.at_most_one_more;
-          next = next honest _ found.after.project (inl found.after.held);
-        });
-        kept = λ honest world project held it. ∥∥₁_map (it.held held (image_at t) may) (λ still_held. next honest world project (inl still_held));
-      }

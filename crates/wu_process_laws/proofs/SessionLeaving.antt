@@ -13,7 +13,7 @@ use Rattle.sqlite_std_file.specs.declared.host.Host.{Host}
 use Rattle.sqlite_store.specs.declared.store.FileStore.{FileStore}
 use Rattle.sqlite_trees.specs.declared.store.Store.{Ghosts}
 use Rattle.sqlite_wal.proofs.LogLemmas.{SeenMayStay}
-use Rattle.sqlite_wal.specs.Files.{image_at}
+use Rattle.sqlite_wal.specs.Files.{image_at, outcomes}
 use Rattle.sqlite_wal.specs.Recovery.{Image}
 use Rattle.sqlite.specs.Closing.{IsCopied}
 use Rattle.sqlite.specs.Files.{file_state, IsOpened, over_files, HoldsDatabase}
@@ -58,7 +58,7 @@ use Rattle.wu_stops.specs.Beginning.{HoldsWorld}
 use Rattle.wu_stops.proofs.BeginningLemmas.{goes_from}
 use Rattle.wu_process_laws.proofs.Leaving.{all_hold, begins_from, copied_each, leaves_its_work, hold_after, hold_one_more, unclosed_clean, unclosed_each}
 use Rattle.wu_process_laws.specs.Runs.{HoldAfter, ImageRefines, LeavesAsItWas, OfEachImage, Holds, HoldAfterOneMore}
-use Rattle.wu_process_laws.specs.SessionRuns.{AskedDid, AsksOfHeard, GoesOnFrom, InputDid, LeavesItsLines, LeavesSession, LineDid, LinesDid, SessionsBeginWhereOneEnded, LeavesItsLinesUnclosed}
+use Rattle.wu_process_laws.specs.SessionRuns.{AskedDid, AsksOfHeard, GoesOnFrom, InputDid, LeavesItsLines, LeavesSession, LineDid, LinesDid, BeginsWhereOneEnded, GoesFromFirst, GoesOnAfter, LeavesItsLinesUnclosed}
 
 -- ---- the machine over two lists
 
@@ -406,24 +406,35 @@ module _ {S T W E : Type 0} {c d : calls.Ghosts Host} {s : start.Ghosts S} {t : 
     session = λ two honest. leaves_its_lines still contents told_of second two honest world project (inl held);
   }
 
-  pub sessions_begin_where_one_ended : SessionsBeginWhereOneEnded contents told_of first second
-  sessions_begin_where_one_ended = record {
-    after_session = λ one may. record {
-      done = λ world it. ∥∥₁_map (it.held (image_at t) may) (λ after. goes_on_from _ after.project after.held);
-      kept = λ world project held it. ∥∥₁_map (it.held held (image_at t) may) (λ there. goes_on_from world project there);
-    };
-    after_stop = λ one may. record {
-      done = λ world it. ∥∥₁_map (it.held (image_at t) may) (λ found. record {
-        kept = found.kept;
-        within = found.within;
-        has_done = found.has_done;
-        at_most_one_more = found.at_most_one_more;
-        next = goes_on_from _ found.after.project found.after.held;
-      });
-      kept = λ world project held it. ∥∥₁_map (it.held held (image_at t) may) (λ there. goes_on_from world project there);
-    };
+  -- or from one that may have one command more
+  goes_on_after : (world : World) (commands : List Command) (count : ℕ) → HoldAfterOneMore world commands count (image_at t) → GoesOnAfter contents told_of first second world commands count
+  goes_on_after world commands count it = record {
+    kept = it.kept;
+    within = it.within;
+    has_done = it.has_done;
+    at_most_one_more = it.at_most_one_more;
+    next = goes_on_from _ it.after.project it.after.held;
+  }
+
+  from_first : (files : Files (Modelled Host S c s)) (before after : Option (List ℕ)) → outcomes g files.log files.db (image_at t) → GoesFromFirst contents told_of first second files before after
+  from_first files before after may world project held it = ∥∥₁_map (it.held held (image_at t) may) (λ there. goes_on_from world project there)
+
+  pub begins_where_one_ended : BeginsWhereOneEnded contents told_of first second
+  begins_where_one_ended = record {
     after_run = λ one may. record {
       done = λ world it. ∥∥₁_map (it.held (image_at t) may) (λ after. goes_on_from _ after.project after.held);
-      kept = λ world project held it. ∥∥₁_map (it.held held (image_at t) may) (λ there. goes_on_from world project there);
+      kept = from_first one.files _ _ may;
+    };
+    after_stopped_run = λ one may. record {
+      done = λ world it. ∥∥₁_map (it.held (image_at t) may) (goes_on_after world _ _);
+      kept = from_first one.close.files _ _ may;
+    };
+    after_session = λ one may. record {
+      done = λ world it. ∥∥₁_map (it.held (image_at t) may) (λ after. goes_on_from _ after.project after.held);
+      kept = from_first one.files _ _ may;
+    };
+    after_stopped_session = λ one may. record {
+      done = λ world it. ∥∥₁_map (it.held (image_at t) may) (goes_on_after world _ _);
+      kept = from_first one.close.files _ _ may;
     };
   }

@@ -104,11 +104,14 @@ module _ {D : Type 0} (g : Ghosts D) (files : Files D) (says : Holds) (before af
     pub whole : status ≡ 0 → count ≡ length (commands_of_work world asked ran)
     pub held : OfEachImage g files (says world (commands_of_work world asked ran) count)
 
+  -- Over this world, so much of the work was done; or no project was adopted.
+  abbrev pub LeavesWork : Image → World → Work → ℕ → Type 0
+  LeavesWork first world asked status = LeavesDone world asked status ⊎ LeavesAsItWas g files first before after world status
+
   -- If the disk is clean at the end, this holds of each world of a project that the files held at first.
   abbrev pub LeavesBeginning : Image → Work → ℕ → Type 0
   LeavesBeginning first asked status =
-      AreClean g files.log files.db → (world : World) → IsProject world → ImageRefines first world
-      → LeavesDone world asked status ⊎ LeavesAsItWas g files first before after world status
+      AreClean g files.log files.db → (world : World) → IsProject world → ImageRefines first world → LeavesWork first world asked status
 
 -- ---- one run
 
@@ -150,6 +153,10 @@ module _ {S W E : Type 0} {c : calls.Ghosts Host} {s : start.Ghosts S} {g : Ghos
   abbrev pub done_by_unclosed : (end : End (Modelled Host S c s) g) → (run : UnclosedRun end) → RunsAsked {g = g} contents run.words run.old run.new run.obeys.done (left.Unclosed run.close.error run.close.store)
   done_by_unclosed end run = subst (λ l. RunsWords {g = g} contents run.words run.old run.new run.obeys.done l) run.close.unclosed run.obeys.runs
 
+  -- Over this world, the files hold a prefix of the work, and no more; or no project was adopted.
+  abbrev pub LeavesWorkOver : (end : End (Modelled Host S c s) g) → ClosedRun end → World → Type 0
+  LeavesWorkOver end run world = LeavesWork g run.files HoldAfter (contents run.old) (contents (done_by end run).runs.mid) (image_at s) world (done_by end run).work end.status
+
   -- The files hold a prefix of the work that was done, and no more. What went out before the exports of a script reports
   -- it.
   abbrev pub LeavesItsDone : (end : End (Modelled Host S c s) g) → ClosedRun end → Type 0
@@ -164,56 +171,3 @@ module _ {S W E : Type 0} {c : calls.Ghosts Host} {s : start.Ghosts S} {g : Ghos
 
   abbrev pub LeavesItsWorkUnclosed : End (Modelled Host S c s) g → Type 0
   LeavesItsWorkUnclosed end = (run : UnclosedRun end) → LeavesItsDoneOrMore end run
-
--- ---- one after another
-
-module _ {S T W E : Type 0} {c d : calls.Ghosts Host} {s : start.Ghosts S} {t : start.Ghosts T} {g : Ghosts (Modelled Host S c s)} {h : Ghosts (Modelled Host T d t)} (contents : W → Option (List ℕ)) (told_of : E → Option (List ℕ))
-    (first : End (Modelled Host S c s) g) (second : End (Modelled Host T d t) h) where
-  -- Over this world, the second run did a prefix of its work, or adopted no project.
-  abbrev pub DoesNext : ClosedRun contents told_of second → Work → World → Type 0
-  DoesNext run asked world =
-      LeavesDone h run.files HoldAfter (contents run.old) (contents (done_by contents told_of second run).runs.mid) world asked second.status ⊎ LeavesAsItWas h run.files (image_at t) (contents run.old) (contents (done_by contents told_of second run).runs.mid) world second.status
-
-  -- The second run did so over the world after so many commands of the first, or after one more.
-  pub record DoesNextAfter (run : ClosedRun contents told_of second) (asked : Work) (world : World) (commands : List Command) (count : ℕ) : Type 0 where
-    pub kept : ℕ
-    pub within : kept ≤ length commands
-    pub has_done : count ≤ kept
-    pub at_most_one_more : kept ≤ count + 1
-    pub next : DoesNext run asked (world_after world commands kept)
-
-  -- The second run went on from the world that the first left: the one after what the first did, or the one before it.
-  pub record GoInTurn (one : ClosedRun contents told_of first) (two : ClosedRun contents told_of second) : Type 0 where
-    pub left : LeavesItsDone contents told_of first one
-    pub next : LeavesItsDone contents told_of second two
-    pub done :
-        AreClean h two.files.log two.files.db → (world : World) (it : LeavesDone g one.files HoldAfter (contents one.old) (contents (done_by contents told_of first one).runs.mid) world (done_by contents told_of first one).work first.status)
-        → ∥ DoesNext two (done_by contents told_of second two).work (world_after world (commands_of_work world (done_by contents told_of first one).work it.ran) it.count) ∥₁
-    pub kept :
-        AreClean h two.files.log two.files.db → (world : World) → IsProject world → HoldsWorld (image_at s) world
-        → LeavesAsItWas g one.files (image_at s) (contents one.old) (contents (done_by contents told_of first one).runs.mid) world first.status
-        → ∥ DoesNext two (done_by contents told_of second two).work world ∥₁
-
-  -- Likewise after a first run whose close failed; its cut command may be in the world that the second run goes on
-  -- from.
-  pub record GoAfterStop (one : UnclosedRun contents told_of first) (two : ClosedRun contents told_of second) : Type 0 where
-    pub left : LeavesItsDoneOrMore contents told_of first one
-    pub next : LeavesItsDone contents told_of second two
-    pub done :
-        AreClean h two.files.log two.files.db → (world : World) (it : LeavesDone g one.close.files HoldAfterOneMore (contents one.old) (contents (done_by_unclosed contents told_of first one).runs.mid) world (done_by_unclosed contents told_of first one).work first.status)
-        → ∥ DoesNextAfter two (done_by contents told_of second two).work world (commands_of_work world (done_by_unclosed contents told_of first one).work it.ran) it.count ∥₁
-    pub kept :
-        AreClean h two.files.log two.files.db → (world : World) → IsProject world → HoldsWorld (image_at s) world
-        → LeavesAsItWas g one.close.files (image_at s) (contents one.old) (contents (done_by_unclosed contents told_of first one).runs.mid) world first.status
-        → ∥ DoesNext two (done_by contents told_of second two).work world ∥₁
-
-  -- If the second run begins over what a crash left of the first, it goes on from there.
-  abbrev pub BeginsWhereOneEnded : Type 0
-  BeginsWhereOneEnded =
-      (one : ClosedRun contents told_of first) (two : ClosedRun contents told_of second) → outcomes g one.files.log one.files.db (image_at t)
-      → GoInTurn one two
-
-  abbrev pub BeginsWhereOneStopped : Type 0
-  BeginsWhereOneStopped =
-      (one : UnclosedRun contents told_of first) (two : ClosedRun contents told_of second) → outcomes g one.close.files.log one.close.files.db (image_at t)
-      → GoAfterStop one two

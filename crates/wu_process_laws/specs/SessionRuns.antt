@@ -39,7 +39,7 @@ use Rattle.wu_process.specs.Serving.{HoldsSession}
 use Rattle.wu_process.specs.declared.End.{End}
 use Rattle.wu_process.specs.declared.database.LeftDatabase.TheVariants as left
 use Rattle.wu_stops.specs.Beginning.{HoldsWorld}
-use Rattle.wu_process_laws.specs.Runs.{ClosedRun, DoesNext, done_by, FailedClose, HoldAfter, HoldAfterOneMore, Holds, ImageRefines, LeavesAsItWas, LeavesDone, OfEachImage}
+use Rattle.wu_process_laws.specs.Runs.{ClosedRun, done_by, done_by_unclosed, FailedClose, HoldAfter, HoldAfterOneMore, Holds, ImageRefines, LeavesAsItWas, LeavesDone, LeavesWorkOver, OfEachImage, UnclosedRun}
 
 -- ---- one line
 
@@ -182,7 +182,7 @@ module _ {S T W E : Type 0} {c d : calls.Ghosts Host} {s : start.Ghosts S} {t : 
     (first : End (Modelled Host S c s) g) (second : End (Modelled Host T d t) h) where
   -- The second run went on from this world, where the disk is clean at its end: a line or a script, or a session.
   pub record GoesOnFrom (world : World) : Type 0 where
-    pub line : (two : ClosedRun contents told_of second) → AreClean h two.files.log two.files.db → DoesNext contents told_of first second two (done_by contents told_of second two).work world
+    pub line : (two : ClosedRun contents told_of second) → AreClean h two.files.log two.files.db → LeavesWorkOver contents told_of second two world
     pub session : (two : ClosedSession contents told_of second) → AreClean h two.files.log two.files.db → LeavesLines contents told_of second two.run two.files HoldAfter world
 
   -- So from the world after so many of these commands, or after one more.
@@ -198,21 +198,6 @@ module _ {S T W E : Type 0} {c d : calls.Ghosts Host} {s : start.Ghosts S} {t : 
   GoesFromFirst files before after =
       (world : World) → IsProject world → HoldsWorld (image_at s) world → LeavesAsItWas g files (image_at s) before after world first.status → ∥ GoesOnFrom world ∥₁
 
-  -- The second run went on from the world that a session left: the one after what its lines did, or the one before it.
-  pub record GoesAfterSession (one : ClosedSession contents told_of first) : Type 0 where
-    pub done :
-        (world : World) (it : LeavesSession g one.files HoldAfter contents may_hold (MakesExport may_become may_become) one.run.session.path world one.run.old one.run.new one.run.in_old one.run.in_new)
-        → ∥ GoesOnFrom (world_after world (it.commands ++ it.undone) (length it.commands)) ∥₁
-    pub kept : GoesFromFirst one.files (contents one.run.old) (contents one.run.new)
-
-  -- Likewise after a session whose close failed; the command that was cut may be in the world that the second run goes on
-  -- from.
-  pub record GoesAfterStop (one : UnclosedSession contents told_of first) : Type 0 where
-    pub done :
-        (world : World) (it : LeavesSession g one.close.files HoldAfterOneMore contents may_hold (MakesExport may_become may_become) one.run.session.path world one.run.old one.run.new one.run.in_old one.run.in_new)
-        → ∥ GoesOnAfter world (it.commands ++ it.undone) (length it.commands) ∥₁
-    pub kept : GoesFromFirst one.close.files (contents one.run.old) (contents one.run.new)
-
   -- The second run went on from the world that a line or a script left: the one after what it did, or the one before it.
   pub record GoesAfterRun (one : ClosedRun contents told_of first) : Type 0 where
     pub done :
@@ -220,8 +205,30 @@ module _ {S T W E : Type 0} {c d : calls.Ghosts Host} {s : start.Ghosts S} {t : 
         → ∥ GoesOnFrom (world_after world (commands_of_work world (done_by contents told_of first one).work it.ran) it.count) ∥₁
     pub kept : GoesFromFirst one.files (contents one.old) (contents (done_by contents told_of first one).runs.mid)
 
-  -- If the second run begins over what a crash left of the first, of which one was a session, it goes on from there.
-  pub record SessionsBeginWhereOneEnded : Type 0 where
-    pub after_session : (one : ClosedSession contents told_of first) → outcomes g one.files.log one.files.db (image_at t) → GoesAfterSession one
-    pub after_stop : (one : UnclosedSession contents told_of first) → outcomes g one.close.files.log one.close.files.db (image_at t) → GoesAfterStop one
+  -- Likewise after one whose close failed; its cut command may be in the world that the second run goes on from.
+  pub record GoesAfterStoppedRun (one : UnclosedRun contents told_of first) : Type 0 where
+    pub done :
+        (world : World) (it : LeavesDone g one.close.files HoldAfterOneMore (contents one.old) (contents (done_by_unclosed contents told_of first one).runs.mid) world (done_by_unclosed contents told_of first one).work first.status)
+        → ∥ GoesOnAfter world (commands_of_work world (done_by_unclosed contents told_of first one).work it.ran) it.count ∥₁
+    pub kept : GoesFromFirst one.close.files (contents one.old) (contents (done_by_unclosed contents told_of first one).runs.mid)
+
+  -- The second run went on from the world that a session left: the one after what its lines did, or the one before it.
+  pub record GoesAfterSession (one : ClosedSession contents told_of first) : Type 0 where
+    pub done :
+        (world : World) (it : LeavesSession g one.files HoldAfter contents may_hold (MakesExport may_become may_become) one.run.session.path world one.run.old one.run.new one.run.in_old one.run.in_new)
+        → ∥ GoesOnFrom (world_after world (it.commands ++ it.undone) (length it.commands)) ∥₁
+    pub kept : GoesFromFirst one.files (contents one.run.old) (contents one.run.new)
+
+  -- Likewise after one whose close failed.
+  pub record GoesAfterStoppedSession (one : UnclosedSession contents told_of first) : Type 0 where
+    pub done :
+        (world : World) (it : LeavesSession g one.close.files HoldAfterOneMore contents may_hold (MakesExport may_become may_become) one.run.session.path world one.run.old one.run.new one.run.in_old one.run.in_new)
+        → ∥ GoesOnAfter world (it.commands ++ it.undone) (length it.commands) ∥₁
+    pub kept : GoesFromFirst one.close.files (contents one.run.old) (contents one.run.new)
+
+  -- If the second run begins over what a crash left of the first, it goes on from there, whichever of them is a session.
+  pub record BeginsWhereOneEnded : Type 0 where
     pub after_run : (one : ClosedRun contents told_of first) → outcomes g one.files.log one.files.db (image_at t) → GoesAfterRun one
+    pub after_stopped_run : (one : UnclosedRun contents told_of first) → outcomes g one.close.files.log one.close.files.db (image_at t) → GoesAfterStoppedRun one
+    pub after_session : (one : ClosedSession contents told_of first) → outcomes g one.files.log one.files.db (image_at t) → GoesAfterSession one
+    pub after_stopped_session : (one : UnclosedSession contents told_of first) → outcomes g one.close.files.log one.close.files.db (image_at t) → GoesAfterStoppedSession one

@@ -5,8 +5,8 @@ ghost use Rattle.wu_process.specs.Processes.{RunsProcess};
 ghost use Rattle.wu_process_laws.specs.BackedUp.{EachBackupHolds};
 ghost use Rattle.wu_process_laws.specs.Checked.{EachCheckIsTrue};
 ghost use Rattle.wu_process_laws.specs.KeptOutputs.{EachNameHasItsFile, EachOutputBeforeHasItsFile, EachOutputHasItsFile};
-ghost use Rattle.wu_process_laws.specs.Runs.{BeginsWhereOneEnded, BeginsWhereOneStopped, LeavesItsWork, LeavesItsWorkUnclosed};
-ghost use Rattle.wu_process_laws.specs.SessionRuns.{LeavesItsLines, LeavesItsLinesUnclosed, SessionsBeginWhereOneEnded};
+ghost use Rattle.wu_process_laws.specs.Runs.{LeavesItsWork, LeavesItsWorkUnclosed};
+ghost use Rattle.wu_process_laws.specs.SessionRuns.{BeginsWhereOneEnded, LeavesItsLines, LeavesItsLinesUnclosed};
 
 use sqlite::{FileFrom, Start};
 use std::io::{self, BufRead, Write};
@@ -49,36 +49,16 @@ pub fn a_stopped_session_leaves_a_beginning<S: Start, O: Write, E: Write>(end: &
     ensures { LeavesItsLinesUnclosed O.contents E.contents end.now }
 {}
 
-/// Shows that a run whose database holds what a crash left of another's goes on from the world that the other left.
+/// Shows that a run whose database holds what a crash left of another's goes on from the world that the other left: a
+/// line, a script or a session after any of these, also after one whose close failed.
 pub fn a_run_begins_where_one_ended<S: Start, T: Start, O: Write, E: Write>(
     first: &End<FileFrom<S>>,
     second: &End<FileFrom<T>>,
 )
     // A second run over what a crash left of a first one does its work over the world that the
-    // first left.
+    // first left, whichever of them is a session. After one whose close failed, the world may have
+    // the command that was cut.
     ensures { BeginsWhereOneEnded O.contents E.contents first.now second.now }
-{}
-
-/// Shows the same of a run after one whose close failed, as where the disk failed during that one.
-pub fn a_run_begins_where_one_stopped<S: Start, T: Start, O: Write, E: Write>(
-    first: &End<FileFrom<S>>,
-    second: &End<FileFrom<T>>,
-)
-    // So does a second run after one whose close failed; the world may then have the command that
-    // was cut.
-    ensures { BeginsWhereOneStopped O.contents E.contents first.now second.now }
-{}
-
-/// Shows that a run over what a crash left of a session's database goes on from the world that the session left, also one
-/// whose close failed; and that a session does so over what a line, a script or another session left.
-pub fn sessions_begin_where_one_ended<S: Start, T: Start, O: Write, E: Write>(
-    first: &End<FileFrom<S>>,
-    second: &End<FileFrom<T>>,
-)
-    // A second run over what a crash left of a first one does its work over the world that the
-    // first left, whichever of them is a session. After a session whose close failed, the world may
-    // have the command that was cut.
-    ensures { SessionsBeginWhereOneEnded O.contents E.contents first.now second.now }
 {}
 
 /// Does what the words of a process ask for, as `run_with`. Where it closed its database, that holds the world after a
