@@ -17,11 +17,10 @@ use Rattle.wu_check.specs.declared.finding.Verdict.TheVariants as verdict
 use Rattle.wu_core.specs.declared.fault.Fault.{Fault}
 use Rattle.wu_core.specs.World.{World}
 use Rattle.wu_stops.specs.Beginning.{HoldsWorld}
-use Rattle.wu_passes.specs.Committing.{FoundAs}
 use Rattle.wu_tables.specs.Others.{HasOnlyAProject}
 use Rattle.wu_schema.specs.Asking.{Asks, IsAsBefore}
 use Rattle.wu_schema.specs.Refines.{Refines}
-use Rattle.wu_stops.proofs.StoppingLemmas.{stands_still}
+use Rattle.wu_stops.proofs.BeginningLemmas.{goes_from, finds_in}
 use Rattle.wu_store.specs.StandsFor.{StandsFor}
 use Rattle.wu_cli.specs.Backups.{AreOfVerdict, CountsSound}
 use Rattle.wu_check.specs.declared.finding.Counts.{Counts}
@@ -79,13 +78,8 @@ module _ (files : Files Memory) (conn : Copy) (opened : IsOpenedIn files conn) w
   -- the database of a world that the files hold is that of the world
   pub found_stands : (world : World) → HoldsWorld image world → StandsFor (file_state conn).now world
   found_stands world held =
-      let db = (file_state conn).now in
       let opens = opened.opens (memory_clean conn) in
-      let finds = opened.finds (memory_clean conn) in
-      let same : db ≡ (file_state conn).committed = opens.0.clean in
-      let right : IsDatabase db = (opens.1 opens.0.is_open).0 in
-      let at : FoundAs (file_state conn).committed.trees world = subst (λ (ts : Trees). FoundAs ts world) (sym (finds.holds held.trees held.holds)) held.found in
-      stands_still at.database db world at.stands right (ap (λ (d : Database). d.trees) same ∙ sym at.same)
+      ((goes_from conn opens image (finds_in files conn (opened.finds (memory_clean conn))) (λ file. inl refl) world held).stands opens.0.is_open).0
 
   module _ (mid : Copy) (its : Counts) (checks : CountsSound over_files conn mid (Ok its)) where
     pub kept : IsAsBefore over_files conn mid
