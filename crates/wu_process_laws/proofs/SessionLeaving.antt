@@ -58,7 +58,7 @@ use Rattle.wu_stops.specs.Beginning.{HoldsWorld}
 use Rattle.wu_stops.proofs.BeginningLemmas.{goes_from}
 use Rattle.wu_process_laws.proofs.Leaving.{all_hold, begins_from, copied_each, leaves_its_work, hold_after, hold_one_more, unclosed_clean, unclosed_each}
 use Rattle.wu_process_laws.specs.Runs.{HoldAfter, ImageRefines, LeavesAsItWas, OfEachImage, Holds, HoldAfterOneMore}
-use Rattle.wu_process_laws.specs.SessionRuns.{AskedDid, AsksOfHeard, GoesOnFrom, InputDid, LeavesItsLines, LeavesSession, LineDid, LinesDid, BeginsWhereOneEnded, GoesFromFirst, GoesOnAfter, LeavesItsLinesUnclosed}
+use Rattle.wu_process_laws.specs.SessionRuns.{AskedDid, AsksOfHeard, GoesOnFrom, InputDid, LeavesItsLines, LeavesSession, LineDid, LinesDid, BeginsWhereOneEnded, GoesFromFirst, GoesOnAfter, LeavesItsLinesUnclosed, EndDid}
 
 -- ---- the machine over two lists
 
@@ -221,6 +221,22 @@ module _ {S W : Type 0} {store : Ghosts S} (contents : W → Option (List ℕ)) 
   last_clean : (mid new : Project S store) (out_mid out_new : W) (last : Result (List ℕ) Refusal) (ends : Option ℕ) → AnswersHeard contents gives exports db mid new out_mid out_new last ends → FaultsOnlyGrow (state_of mid) (state_of new)
   last_clean mid new out_mid out_new last ends it = heard_clean contents gives exports db mid new out_mid it.out_done last it.done it.does
 
+  -- the lines did these, and the input ended so
+  input_of : (world : World) (old new : Project S store) (out_old out_new : W) (in_old in_new : Option (List ℕ)) (status : ℕ) (runs : RunsSession contents gives exports db old new out_old out_new in_old in_new status)
+      → (first last undone : List Command) → LinesDid contents gives exports db world out_old runs.out_mid runs.heard first
+      → EndDid contents gives exports db (world_of world first) runs.out_mid out_new runs.in_mid in_new last undone → InputDid contents gives exports db world out_old out_new in_old in_new (first ++ last) undone
+  input_of world old new out_old out_new in_old in_new status runs first last undone each end = record {
+    heard = runs.heard;
+    in_mid = runs.in_mid;
+    hears = runs.hears;
+    first = first;
+    out_mid = runs.out_mid;
+    each = each;
+    last = last;
+    end = end;
+    all = refl;
+  }
+
   input_did : (old new : Project S store) (out_old out_new : W) (in_old in_new : Option (List ℕ)) (status : ℕ) → RunsSession contents gives exports db old new out_old out_new in_old in_new status
       → IsSessionOpen old → HasCleanDisk (state_of new) → (world : World) → IsOver old world → HasServed world out_old out_new in_old in_new new
   input_did old new out_old out_new in_old in_new status runs going clean world over = elim runs.end [
@@ -230,17 +246,7 @@ module _ {S W : Type 0} {store : Ghosts S} (contents : W → Option (List ℕ)) 
           first,
           [],
           0,
-          record {
-            heard = runs.heard;
-            in_mid = runs.in_mid;
-            hears = runs.hears;
-            first = first;
-            out_mid = runs.out_mid;
-            each = did;
-            last = [];
-            end = inl (refl, refl, ends.unwritten, ends.nothing);
-            all = refl;
-          },
+          input_of world old new out_old out_new in_old in_new status runs first [] [] did (inl (refl, refl, ends.unwritten, ends.nothing)),
           subst (λ (p : Project S store). HasDriven world first [] 0 p) (sym ends.same) (driven_all runs.mid world first has),
         )
     | inr ends ↦
@@ -252,25 +258,15 @@ module _ {S W : Type 0} {store : Ghosts S} (contents : W → Option (List ℕ)) 
           first,
           all,
           count,
-          record {
-            heard = runs.heard;
-            in_mid = runs.in_mid;
-            hears = runs.hears;
-            first = first;
-            out_mid = runs.out_mid;
-            each = did;
-            last = take count all;
-            end = inr (record {
-              last = ends.last;
-              told = ends.answered.told;
-              did = ended;
-              heard = elim ends.heard [
-                | inl next ↦ inl next.0
-                | inr unread ↦ inr (unread.0, unread.1, unread.2)
-              ];
-            });
-            all = refl;
-          },
+          input_of world old new out_old out_new in_old in_new status runs first (take count all) (drop count all) did (inr (record {
+            last = ends.last;
+            told = ends.answered.told;
+            did = ended;
+            heard = elim ends.heard [
+              | inl next ↦ inl next.0
+              | inr unread ↦ inr (unread.0, unread.1, unread.2)
+            ];
+          })),
           record { answers = has.answers; answered = has.answered; more = answers; is_cut = is_cut; drives = drives },
         )
   ]
