@@ -2,65 +2,13 @@
 use Rattle.std.proofs.Common.{◌≡◌, ◌∙◌, ℕ, Bool, true, false, if◌then◌else◌, List, [], ◌∷◌, Option, Some, Result, Ok, Err, IfOk, IfErr, ap, bytes_eq, find, inl, inr, refl, subst, sym}
 use Rattle.std.proofs.lemmas.Slice.Eq.{bytes_eq-Decides}
 use Rattle.clap.specs.Words.{Row, subcommand_of}
-use Rattle.wu_arguments.specs.CommandLine.{all_subcommands, options_of, program, subcommand_name, subcommand_named}
-use Rattle.wu_arguments.specs.Lines.{HasValues, IsLineIn, IsOrder}
-use Rattle.wu_arguments.specs.Refusals.{Explains, IsIncomplete, IsLacking, IsOrderOf, IsSeen, IsUnread, IsWithout, LacksOfNamed, LacksOne, LacksText, OfTaken, WantsOnly}
-use Rattle.wu_arguments.specs.declared.line.Asking.{Asking}
-use Rattle.wu_arguments.specs.declared.option.LineOption.TheVariants.{Database}
+use Rattle.wu_arguments.specs.CommandLine.{all_subcommands, program, subcommand_name, subcommand_named}
+use Rattle.wu_arguments.specs.Lines.{IsOrder}
+use Rattle.wu_arguments.specs.Refusals.{Explains, IsIncomplete, IsOrderOf, IsUnread, LacksOfNamed, OfTaken}
 use Rattle.wu_arguments.specs.declared.order.Order.{Order}
 use Rattle.wu_arguments.specs.declared.order.Order.TheVariants as order
 use Rattle.wu_arguments.specs.declared.subcommand.Subcommand.{Subcommand}
-use Rattle.wu_arguments.specs.declared.subcommand.Subcommand.TheVariants.{Show}
 use Rattle.wu_arguments.specs.declared.usage.Usage.{Usage}
-
-module _ (rows : List Row) (asked : Subcommand) where
-  -- a line that asks what has the values of a subcommand is of that
-  line_made : (asking : Asking) (result : Result Order Usage) → HasValues rows asked asking → IfOk result (IsLineIn rows asking) → IfOk result (IsOrder rows asked)
-  line_made asking (Ok (order.Line line)) values (db, same) = (db, subst (HasValues rows asked) (sym same) values)
-  line_made asking (Ok (order.Script script)) values is = absurd is
-  line_made asking (Ok (order.Session path)) values is = absurd is
-  line_made asking (Ok (order.Check path)) values is = absurd is
-  line_made asking (Ok (order.Export it)) values is = absurd is
-  line_made asking (Ok (order.Lint it)) values is = absurd is
-  line_made asking (Ok (order.Explain topic)) values is = absurd is
-  line_made asking (Err usage) values is = tt
-
-  line_lacks : (result : Result Order Usage) → (LacksText rows Database → LacksOne rows (options_of asked)) → IfErr result (IsWithout (LacksText rows Database)) → IfErr result (IsUnread rows asked)
-  line_lacks (Ok order) lacks refused = tt
-  line_lacks (Err usage) lacks (inl (is, none)) = inl (inl (is, lacks none))
-  line_lacks (Err usage) lacks (inr is) = inl (inr is)
-
--- ---- what the call for a subcommand gives
-
-module _ (rows : List Row) (asked its : Subcommand) (is : asked ≡ its) where
-  abbrev IsGiven : Result Order Usage → Type 0
-  IsGiven result = record {
-    order : IfOk result (IsOrder rows asked);
-    refused : IfErr result (IsUnread rows asked);
-    wants : WantsOnly result (asked ≡ Show → IsSeen rows);
-  }
-
-  no_view : (result : Result Order Usage) → (its ≡ Show → ⊥) → WantsOnly result (asked ≡ Show → IsSeen rows)
-  no_view (Ok order) other = tt
-  no_view (Err usage) other = λ memory show. absurd (other (sym is ∙ show))
-
-  -- what is asked is no view
-  pub given : (result : Result Order Usage) → (its ≡ Show → ⊥) → IfOk result (IsOrder rows its) → IfErr result (IsUnread rows its) → IsGiven result
-  given result other order refused = record {
-    order = subst (λ s. IfOk result (IsOrder rows s)) (sym is) order;
-    refused = subst (λ s. IfErr result (IsUnread rows s)) (sym is) refused;
-    wants = no_view result other;
-  }
-
-  -- its values were had, and so a line, or that failed
-  pub line_given : (asking : Asking) (result : Result Order Usage) → (its ≡ Show → ⊥) → (LacksText rows Database → LacksOne rows (options_of its)) → HasValues rows its asking
-      → IfOk result (IsLineIn rows asking) → IfErr result (IsWithout (LacksText rows Database)) → IsGiven result
-  line_given asking result other lacks values line refused = given result other (line_made rows its asking result values line) (line_lacks rows its result lacks refused)
-
-  -- its values were not had
-  pub values_lack : (usage : Usage) (result : Result Order Usage) → result ≡ Err usage → (its ≡ Show → ⊥) → IsLacking rows its usage → IsGiven result
-  values_lack usage result same other lacks =
-      subst IsGiven (sym same) (given (Err usage) other tt (inl lacks))
 
 -- ---- the subcommand of a name
 

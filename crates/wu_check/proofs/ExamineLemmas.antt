@@ -14,11 +14,12 @@ use Rattle.wu_loader.specs.declared.finding.LoadedTable.TheVariants as loaded
 use Rattle.wu_loader.specs.declared.finding.WrongRow.{WrongRow}
 use Rattle.wu_loader.specs.declared.totals.OtherSums.{OtherSums}
 use Rattle.wu_loader.specs.Totals.{ShowsOtherSums}
-use Rattle.wu_loader.proofs.LookLemmas.{memory_other, never_broken}
+use Rattle.wu_loader.proofs.LookLemmas.{memory_other}
 use Rattle.wu_loader.proofs.TotalLemmas.{shown_sums}
 use Rattle.wu_schema.specs.Asking.{Asks, ServesUnlessFailed}
 use Rattle.wu_schema.proofs.AskingLemmas.{asks_fault, asks_made, asks_none, asks_now, asks_then, asks_unchanged}
 use Rattle.wu_store.specs.Loading.{StaysUnlessFailed}
+use Rattle.wu_store.proofs.AskLemmas.{never_err}
 use Rattle.sqlite_trees.specs.View.{IsShaped}
 use Rattle.sqlite_trees.specs.declared.store.Shape.TheVariants as shape
 use Rattle.wu_schema.specs.Fresh.{project_names}
@@ -38,7 +39,7 @@ module _ {S : Type 0} (g : Ghosts S) (h : Held S) where
   -- what is known with no question
   pub examines_none : {T : Type 0} (x : T) (Is : Database → T → Type 0) → Is (state g h).now x → Examines g h h (Ok x) Is
   examines_none x Is it = record {
-    asks = asks_none g h (Ok x) (never_broken x);
+    asks = asks_none g h (Ok x) (never_err x);
     says = λ clean legible. it;
     fault = tt;
     answered = λ clean unlimited. tt;
@@ -63,7 +64,7 @@ module _ {S T : Type 0} (g : Ghosts S) (a b : Held S) (Is : Database → T → T
   -- what is made of an answer
   pub examines_made : {U : Type 0} (x : T) (y : U) (Then : Database → U → Type 0) → (Is (state g a).now x → Then (state g a).now y) → Examines g a b (Ok x) Is → Examines g a b (Ok y) Then
   examines_made x y Then made it = record {
-    asks = asks_made g a b x (Ok y) (never_broken y) it.asks;
+    asks = asks_made g a b x (Ok y) (never_err y) it.asks;
     says = λ clean legible. made (it.says clean legible);
     fault = tt;
     answered = λ clean unlimited. tt;
@@ -72,7 +73,7 @@ module _ {S T : Type 0} (g : Ghosts S) (a b : Held S) (Is : Database → T → T
   -- the same, with what the schema is afterwards
   pub examines_seen : {U : Type 0} (x : T) (y : U) (Then : Database → U → Type 0) → ((state g b).now ≡ (state g a).now → Is (state g a).now x → Then (state g a).now y) → Examines g a b (Ok x) Is → Examines g a b (Ok y) Then
   examines_seen x y Then made it = record {
-    asks = asks_made g a b x (Ok y) (never_broken y) it.asks;
+    asks = asks_made g a b x (Ok y) (never_err y) it.asks;
     says = λ clean legible. made (asks_now g a b x it.asks clean) (it.says clean legible);
     fault = tt;
     answered = λ clean unlimited. tt;

@@ -1,9 +1,9 @@
 -- A later version is told before all else.
-use Rattle.wu_schema.proofs.Words.{Database, Ghosts, HasProject, HasVersion, Fault, Held, IfOk, IsFailure, List, NotAProject, Ok, Option, Refines, Result, Row, Some, Table, World, ap, arith, codes, column_named, inl, inr, map, refl, slice_get, state, subst, sym, ℕ, ◌<◌, ◌∙◌, ◌≡◌}
+use Rattle.wu_schema.proofs.Words.{Database, Ghosts, HasProject, HasVersion, Fault, Held, IfOk, IsFailure, List, NotAProject, Ok, Option, Refines, Result, Some, Table, World, ap, arith, codes, column_named, inl, inr, map, refl, slice_get, state, subst, sym, ℕ, ◌<◌, ◌∙◌, ◌≡◌}
 use Rattle.std.specs.Prelude.{IfSome}
 use Rattle.wu_machine.specs.Machine.{present_version}
 use Rattle.wu_schema.proofs.AskingLemmas.{asks_now}
-use Rattle.wu_schema.proofs.VersionLemmas.{project_of, project_row}
+use Rattle.wu_schema.proofs.VersionLemmas.{project_of, project_row, one_version}
 use Rattle.wu_schema.specs.Asking.{Asks}
 use Rattle.wu_schema.specs.Calls.{OnAnswer}
 use Rattle.wu_schema.specs.Versions.{project_cells, rows_of_project, AnswersVersion, AreOfVersion, HasColumn, RefusesVersion}
@@ -15,9 +15,6 @@ use Rattle.wu_check.specs.declared.finding.Finding.TheVariants as finding
 
 same_some : {X : Type 0} {x y : X} → Some x ≡ Some y → x ≡ y
 same_some e = cc
-
-one_version : (rows : List Row) (a b : ℕ) → AreOfVersion rows a → AreOfVersion rows b → a ≡ b
-one_version rows a b x y = let same = sym x.1 ∙ y.1 in cc
 
 -- ---- what the question about the version answers
 

@@ -17,9 +17,9 @@ use Rattle.wu_loader.proofs.StandLemmas.{stored_keyed}
 use Rattle.wu_loader.specs.Shown.{behind_key, keyed}
 use Rattle.wu_loader.specs.Whole.{DiffersAt}
 use Rattle.wu_check.specs.Queues.{ComparesTo, HasMarks, IsQueueIn, LooksInQueue, marked_row}
-use Rattle.wu_loader.proofs.LookLemmas.{never_broken}
 use Rattle.wu_check.proofs.RowLemmas.{shown_differs}
 use Rattle.wu_check.specs.declared.marks.TheConstants.{SELECT_MARKS}
+use Rattle.wu_store.proofs.AskLemmas.{never_err}
 
 abbrev pub queue_asked : Asked
 queue_asked = record {
@@ -80,7 +80,7 @@ compared_marks world db tree has shown is (Some place) differs =
 module _ {S A : Type 0} (g : Ghosts S) (a b : Held S) (world : World) where
   pub looks_marks : (rows : Vec Row A) (found : Option ℕ) → LooksInQueue g a b (Ok rows) (λ stored shown. shown.items ≡ map (keyed 6) stored) → ComparesTo (map marked_row world.workunits) rows.items found → LooksInQueue g a b (Ok found) (HasMarks world)
   looks_marks rows found it compared = record {
-    asks = asks_made g a b rows (Ok found) (never_broken found) it.asks;
+    asks = asks_made g a b rows (Ok found) (never_err found) it.asks;
     opens = it.opens;
     says = λ clean tree has. compared_marks world (state g a).now tree has rows.items (it.says clean tree has) found compared;
     fault = tt;

@@ -1,9 +1,9 @@
 -- What is found keeps a database from holding a sound project.
-use Rattle.wu_schema.proofs.Words.{Database, Err, Fault, IfOk, List, None, Ok, Refines, Result, Row, Some, World, ap, arith, codes, length, map, refl, slice_get, stored_workunit, subst, sym, ℕ, [], ◌∷◌, ◌+◌, ◌-◌, ◌∙◌, ◌≡◌, ◌≤◌}
+use Rattle.wu_schema.proofs.Words.{Database, Err, Fault, IfOk, List, None, Ok, Refines, Result, Row, Some, World, ap, arith, codes, map, refl, slice_get, stored_workunit, subst, sym, ℕ, ◌-◌, ◌∙◌, ◌≡◌, ◌≤◌}
 use Rattle.wu_audit.proofs.SoundLemmas.{stands_against}
 use Rattle.wu_audit.specs.Laws.{SoundInAnyOrder}
 use Rattle.wu_core.specs.declared.workunit.Workunit.{Workunit}
-use Rattle.wu_loader.proofs.StandLemmas.{stands_arranged}
+use Rattle.wu_loader.proofs.StandLemmas.{stands_arranged, all_whole}
 use Rattle.wu_loader.specs.Shown.{AreArranged, AreWhole, IsArranged}
 use Rattle.wu_loader.specs.Worlds.{IsReadable}
 use Rattle.wu_machine.specs.Sound.{IsSound}
@@ -13,7 +13,7 @@ use Rattle.wu_schema.specs.Stored.{stored_marks}
 use Rattle.wu_schema.specs.Tables.{HasTables, IsClassedVersion, ProjectTrees, queue_at, workunit_at}
 use Rattle.wu_store.specs.StandsFor.{IsQueued, marked}
 use Rattle.wu_store.specs.Worlds.{SameWorld}
-use Rattle.wu_store.proofs.SameWorld.{one_world}
+use Rattle.wu_store.proofs.SameWorld.{one_world, one_table}
 use Rattle.wu_tables.specs.Found.{HasQueueIn}
 use Rattle.wu_tables.specs.Upgrades.{HasFreeNames, TakesUpgradeName}
 use Rattle.wu_tables.specs.declared.known.ProjectTable.TheVariants.{Project}
@@ -22,7 +22,7 @@ use Rattle.wu_tables.specs.declared.project.Misfit.TheVariants.{Missing}
 use Rattle.sqlite_trees.specs.View.{IsShaped}
 use Rattle.sqlite_trees.specs.declared.store.Shape.TheVariants as shape
 use Rattle.wu_check.proofs.LaterLemmas.{other_stands}
-use Rattle.wu_check.proofs.VersionLemmas.{fewer_tables, one_table}
+use Rattle.wu_check.proofs.VersionLemmas.{fewer_tables}
 use Rattle.wu_check.specs.Queues.{HasMarks}
 use Rattle.wu_check.specs.Checking.{IsCounted, IsKnownVersion, IsSoundProject}
 use Rattle.wu_check.specs.Examining.{IsLegible}
@@ -43,10 +43,6 @@ readable world sound first = record {
   imports = sound.imports;
   classes = λ k d low. record { host = (sound.classed k d low).host; class = (sound.classed k d low).within };
 }
-
-all_whole : {X : Type 0} (count : ℕ) (stored : X → Row) → ((x : X) → length (stored x) ≡ count + 1) → (xs : List X) → AreWhole count (map stored xs)
-all_whole count stored long [] = tt
-all_whole count stored long (x ∷ xs) = (long x, all_whole count stored long xs)
 
 module _ (any_order : SoundInAnyOrder) (db : Database) (p : IsSoundProject db) where
   same : (world : World) → Refines db world → SameWorld p.world world

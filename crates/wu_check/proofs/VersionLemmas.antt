@@ -1,21 +1,13 @@
 -- The version of each world that the tables stand for, in the row of their project.
-use Rattle.wu_schema.proofs.Words.{[], ◌∷◌, column, inl, inr, refl, Database, Ghosts, HasNamed, Held, List, Ok, ProjectTrees, Row, Some, Table, Vec, ap, map, slice_get, state, sym, ℕ, ◌∙◌, ◌≡◌, number, subst}
+use Rattle.wu_schema.proofs.Words.{[], ◌∷◌, column, inl, inr, refl, Database, Ghosts, Held, List, Ok, ProjectTrees, Row, Vec, ap, map, state, sym, ℕ, ◌∙◌, ◌≡◌, number, subst}
 use Rattle.wu_schema.specs.Tables.{HasTables, IsClassedVersion}
 use Rattle.wu_schema.specs.Versions.{AreOfVersion, project_row}
 use Rattle.wu_loader.specs.Asked.{LooksAtTables}
 use Rattle.wu_loader.specs.Shown.{keyed}
-use Rattle.wu_loader.proofs.LookLemmas.{never_broken}
 use Rattle.wu_schema.proofs.AskingLemmas.{asks_made}
 use Rattle.wu_check.specs.Versions.{IsReadVersion, IsVersionOf, TellVersion}
-
--- a name finds one table, and so one list of rows
-pub one_table : (db : Database) (name : List ℕ) (s t : Table) → HasNamed db.schema name s → HasNamed db.schema name t → db.trees s.tree ≡ db.trees t.tree
-one_table db name s t has_s has_t =
-    let at : has_s.0 ≡ has_t.0 = same_some (sym has_s.1.named ∙ has_t.1.named) in
-    ap (λ (u : Table). db.trees u.tree) (same_some (sym has_s.1.there ∙ ap (slice_get db.schema.tables) at ∙ has_t.1.there))
-  where
-    same_some : {X : Type 0} {x y : X} → Some x ≡ Some y → x ≡ y
-    same_some e = cc
+use Rattle.wu_store.proofs.AskLemmas.{never_err}
+use Rattle.wu_store.proofs.SameWorld.{one_table}
 
 -- the tables of a version are there for one that has no more
 pub fewer_tables : (more fewer : ℕ) → (IsClassedVersion fewer → IsClassedVersion more) → (db : Database) (trees : ProjectTrees) → HasTables more db.schema trees → HasTables fewer db.schema trees
@@ -60,7 +52,7 @@ read_of_row rows version tells db trees tables shown = record {
 module _ {S A : Type 0} (g : Ghosts S) (a b : Held S) where
   pub looks_version : (rows : Vec Row A) (version : ℕ) → LooksAtTables 1 g a b (Ok rows) (λ db trees shown. shown.items ≡ map (keyed 3) (db.trees trees.project)) → TellVersion rows.items version → LooksAtTables 1 g a b (Ok version) (λ db trees version. IsReadVersion db version)
   looks_version rows version it tells = record {
-    asks = asks_made g a b rows (Ok version) (never_broken version) it.asks;
+    asks = asks_made g a b rows (Ok version) (never_err version) it.asks;
     opens = it.opens;
     says = λ clean trees has. read_of_row rows.items version tells (state g a).now trees has.tables (it.says clean trees has);
     fault = tt;

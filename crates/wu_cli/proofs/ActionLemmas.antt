@@ -11,6 +11,7 @@ use Rattle.wu_core.specs.declared.fault.Fault.{Fault}
 use Rattle.wu_core.specs.declared.fault.Fault.TheVariants.{OldSchema}
 use Rattle.wu_drive.specs.declared.runs.Run.{Run}
 use Rattle.wu_drive.specs.Driving.{AnswerAll, Drives, world_after}
+use Rattle.wu_drive.proofs.DrivingLemmas.{same_command}
 use Rattle.wu_machine.specs.declared.command.Answer.{Answer}
 use Rattle.wu_machine.specs.declared.command.Command.{Command}
 use Rattle.wu_passes.specs.declared.project.Project.{Project}
@@ -37,7 +38,7 @@ use Rattle.wu_arguments.specs.declared.action.Action.TheVariants.{Commands, Look
 abbrev pub world_of : World → List Command → World
 world_of world commands = fold_steps world (map request_of commands)
 
-fold_both : (world : World) (xs ys : List Request) → fold_steps world (xs ++ ys) ≡ fold_steps (fold_steps world xs) ys
+pub fold_both : (world : World) (xs ys : List Request) → fold_steps world (xs ++ ys) ≡ fold_steps (fold_steps world xs) ys
 fold_both world [] ys = refl
 fold_both world (x ∷ xs) ys = fold_both (step world x) xs ys
 
@@ -68,9 +69,6 @@ get_within before xs after k c there = get_behind before (xs ++ after) k ∙ get
 
 pub take_within : (before xs after : List Command) (k : ℕ) → k ≤ length xs → take (length before + k) (before ++ (xs ++ after)) ≡ before ++ take k xs
 take_within before xs after k low = take-append-add before (xs ++ after) k ∙ ap (λ l. before ++ l) (take-append-le k xs after low)
-
-pub same_command : (one other : Command) → ◌≡◌ {A = Option Command} (Some one) (Some other) → one ≡ other
-same_command one other same = cc
 
 -- what a list of commands did after others were done, of all of them
 module _ (world : World) (before xs after : List Command) (done answers : List Answer) (run : Run) (is_cut : Bool) (new : State)

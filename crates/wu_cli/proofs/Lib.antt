@@ -1,6 +1,6 @@
 mod TextLemmas
 mod ExportLemmas
-mod ActionLemmas
+pub mod ActionLemmas
 mod TryLemmas
 pub mod ScriptLemmas
 mod RepeatLemmas

@@ -6,7 +6,7 @@ use Rattle.wu_core.specs.World.{World}
 use Rattle.wu_core.specs.declared.fault.Fault.{Fault}
 use Rattle.wu_drive.specs.Driving.{Drives, world_after}
 use Rattle.wu_drive.specs.declared.runs.Run.{Run}
-use Rattle.wu_drive.proofs.DrivingLemmas.{one_fault}
+use Rattle.wu_drive.proofs.DrivingLemmas.{one_fault, never_told}
 use Rattle.wu_drive.proofs.LifeLemmas.{lengthens}
 use Rattle.wu_machine.specs.declared.command.Answer.{Answer}
 use Rattle.wu_machine.specs.Sessions.{world_of_life}
@@ -29,7 +29,7 @@ use Rattle.wu_cli.specs.Trying.{EndsTried, PerformsAs, PerformsBy, RanStep, refu
 use Rattle.wu_cli.proofs.PrintLemmas.{each_prints, one_prints, refused_prints, stop_prints}
 use Rattle.wu_cli.proofs.ActionLemmas.{after_all, all_drives, drives_within, next_within, so_far_drives, world_of}
 use Rattle.wu_cli.proofs.ScriptLemmas.{commands_both, each_done, each_goes, each_over}
-use Rattle.wu_cli.proofs.TryLemmas.{after_accepted, drives_accepted, no_end, ran_clean, refused_as, refused_done, refused_over, stop_done, stop_over}
+use Rattle.wu_cli.proofs.TryLemmas.{after_accepted, drives_accepted, ran_clean, refused_as, refused_done, refused_over, stop_done, stop_over}
 
 module _ {S W : Type 0} {store : Ghosts S} (contents : W → Option (List ℕ)) where
   -- what an action that ended with a fault did of its commands, and what it put out of them
@@ -82,7 +82,7 @@ module _ {S W : Type 0} {store : Ghosts S} (contents : W → Option (List ℕ)) 
       → (answers : List Answer) × (count : ℕ) × (is_cut : Bool) × Drives world (commands_by Tried world action) answers (so_far count) is_cut (state_of new)
       × TellsBy Tried (contents out_old) (contents out_new) world action count fault
       × (IsSessionOpen new → IsOver new (world_after world (commands_by Tried world action) count))
-  tried_tells old new out_old out_done out_new action None fault does (none, same) going clean world over = no_end fault (sym none)
+  tried_tells old new out_old out_done out_new action None fault does (none, same) going clean world over = never_told fault (sym none)
   tried_tells old new out_old out_done out_new action (Some refused) fault does (inl (is_refused, passed)) going clean world over =
       let shows = over_shows old world over in
       let did = refused_done contents old new out_old out_done action refused does is_refused going clean world shows in

@@ -12,7 +12,7 @@ use Rattle.wu_schema.specs.Faults.{IsStoreFault}
 use Rattle.wu_drive.specs.Driving.{AnswerAll, Drives, world_after}
 use Rattle.wu_drive.specs.Running.{RunsList}
 use Rattle.wu_drive.specs.declared.runs.Run.{Run}
-use Rattle.wu_drive.proofs.DrivingLemmas.{one_fault}
+use Rattle.wu_drive.proofs.DrivingLemmas.{one_fault, same_command, never_told}
 use Rattle.wu_machine.specs.declared.command.Answer.{Answer}
 use Rattle.wu_machine.specs.declared.command.Command.{Command}
 use Rattle.wu_machine.specs.declared.view.View.{View}
@@ -36,7 +36,7 @@ use Rattle.wu_cli.specs.Performing.{as_result, commands_of_action, Performs}
 use Rattle.wu_cli.specs.Repeating.{commands_as, commands_by, commands_of_step}
 use Rattle.wu_cli.specs.Scripting.{so_far}
 use Rattle.wu_cli.specs.Trying.{accepted, Attempts, EndsTried, first_refusal, growth, if_accepted, is_refusal, PassesOver, PerformsAs, PerformsBy, PerformsRan, RanStep, refusal_of, refused_or, stopped_at, Stops, StopsAction, Tries}
-use Rattle.wu_cli.proofs.ActionLemmas.{one_clean, one_done, one_goes, one_over, same_command, seen_over, seen_shows, shown_present, world_of}
+use Rattle.wu_cli.proofs.ActionLemmas.{one_clean, one_done, one_goes, one_over, seen_over, seen_shows, shown_present, world_of}
 
 -- ---- the commands that the machine accepts
 
@@ -296,15 +296,12 @@ module _ {S W : Type 0} {store : Ghosts S} (contents : W → Option (List ℕ)) 
 
 -- ---- an action that is done in one of the ways
 
-pub no_end : {P : Type 0} (fault : Fault) → ◌≡◌ {A = Option Fault} None (Some fault) → P
-no_end fault same = absurd (cc)
-
 module _ {S W : Type 0} {store : Ghosts S} (contents : W → Option (List ℕ)) (old new : Project S store) where
   tried_goes : (out_old out_done out_new : W) (action : Action) (told : Option Fault) → Performs contents old new out_old out_done action told → EndsTried contents out_done out_new told None
       → IsSessionOpen old → IsSessionOpen new
   tried_goes out_old out_done out_new action None does ends going = one_goes contents old new out_old out_done action does going
   tried_goes out_old out_done out_new action (Some fault) does (inl (refused, passed)) going = refused_goes contents old new out_old out_done action fault does refused going
-  tried_goes out_old out_done out_new action (Some fault) does (inr (other, no_stop, is, same)) going = no_end fault is
+  tried_goes out_old out_done out_new action (Some fault) does (inr (other, no_stop, is, same)) going = never_told fault is
 
   tried_done : (out_old out_done out_new : W) (action : Action) (told : Option Fault) → Performs contents old new out_old out_done action told → EndsTried contents out_done out_new told None
       → IsSessionOpen old → HasCleanDisk (state_of new) → (world : World) → ShowsProject old world
@@ -317,7 +314,7 @@ module _ {S W : Type 0} {store : Ghosts S} (contents : W → Option (List ℕ)) 
         subst (λ cs. ShowsProject new (world_of world cs)) (sym all) did.2,
       )
   tried_done out_old out_done out_new action (Some fault) does (inl (refused, passed)) going clean world shows = refused_done contents old new out_old out_done action fault does refused going clean world shows
-  tried_done out_old out_done out_new action (Some fault) does (inr (other, no_stop, is, same)) going clean world shows = no_end fault is
+  tried_done out_old out_done out_new action (Some fault) does (inr (other, no_stop, is, same)) going clean world shows = never_told fault is
 
   tried_over : (out_old out_done out_new : W) (action : Action) (told : Option Fault) → Performs contents old new out_old out_done action told → EndsTried contents out_done out_new told None
       → IsSessionOpen old → HasCleanDisk (state_of new) → (world : World) → IsOver old world → IsOver new (world_of world (commands_by Tried world action))
@@ -325,7 +322,7 @@ module _ {S W : Type 0} {store : Ghosts S} (contents : W → Option (List ℕ)) 
       let all = (all_accepted contents old new out_old out_done action does going clean world (over_shows old world over)).0 in
       subst (λ cs. IsOver new (world_of world cs)) (sym all) (one_over contents old new out_old out_done action does going clean world over)
   tried_over out_old out_done out_new action (Some fault) does (inl (refused, passed)) going clean world over = refused_over contents old new out_old out_done action fault does refused going clean world over
-  tried_over out_old out_done out_new action (Some fault) does (inr (other, no_stop, is, same)) going clean world over = no_end fault is
+  tried_over out_old out_done out_new action (Some fault) does (inr (other, no_stop, is, same)) going clean world over = never_told fault is
 
   by_goes : (out_old out_new : W) (mode : Mode) (action : Action) → PerformsBy contents mode old new out_old out_new action None → IsSessionOpen old → IsSessionOpen new
   by_goes out_old out_new Once action does = one_goes contents old new out_old out_new action does

@@ -144,6 +144,6 @@ lost_line_of number name why =
 abbrev pub lost_line : LostOutput → List ℕ
 lost_line lost = lost_line_of lost.number lost.name lost.why
 
--- The line that reports that the folder is not there.
+-- The line that reports that there is no such folder.
 abbrev pub no_folder_line : List ℕ
-no_folder_line = codes "cannot write the outputs: the folder is not there" ++ line_end
+no_folder_line = codes "cannot write the outputs: there is no such folder" ++ line_end

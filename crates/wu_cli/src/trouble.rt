@@ -155,7 +155,7 @@ pub(crate) fn write_trouble<E: Write>(trouble: &Trouble, err: &mut E) -> Result<
         Trouble::Unchecked(reason) => line_of_reason(err, *reason),
         Trouble::Unsound(finding) => line_of_finding(err, finding),
         Trouble::Unmade(why) => line_of_unmade(err, *why),
-        Trouble::NoFolder => write_line(err, "cannot write the outputs: the folder is not there"),
+        Trouble::NoFolder => write_line(err, "cannot write the outputs: there is no such folder"),
         Trouble::Lost(lost) => line_of_lost(err, lost),
         Trouble::Unread(unread) => text_of_unread(err, unread),
     }

@@ -1,5 +1,5 @@
 -- What becomes of the hosts' classes where one is set.
-use Rattle.std.proofs.Common.{◌≡◌, ℕ, ◌≤◌, List, [], ◌∷◌, ◌++◌, map, bytes_eq, Bool, true, false, cond, if◌then◌else◌, Option, Some, Less, Equal, Greater, IsPermutation, refl, sym, ap, subst, ◌∙◌, arith}
+use Rattle.std.proofs.Common.{◌≡◌, ℕ, ◌≤◌, List, [], ◌∷◌, ◌++◌, bytes_eq, Bool, true, false, cond, Option, Some, Equal, Greater, IsPermutation, refl, sym, ap, subst, ◌∙◌, arith}
 use Rattle.std.specs.List.{list_any, AllByRecursion}
 use Rattle.std.specs.Option.{option_map_or}
 use Rattle.std.proofs.lemmas.Cmp.{nat_list_cmp_total, nat_list_eq_equiv}
@@ -68,7 +68,7 @@ class_of-within host classes all = by classes (recursion_from_All IsClassed clas
 
 -- ---- their order
 
-abbrev Before : HostClass → HostClass → Type 0
+abbrev pub Before : HostClass → HostClass → Type 0
 Before one other = below one.host other.host
 
 rises-set : (host : List ℕ) (class : ℕ) (classes : List HostClass) → Ascends Before classes → Ascends Before (with_class host class classes)
@@ -95,30 +95,3 @@ class_comes host class (one ∷ more) free = by_order (order host one.host)
     (λ low. rw low (IsPermutation-to_front (one ∷ more) (record { host = host; class = class })))
     (λ tie. absurd (let e = rw (matches host one.host Equal tie) at free in cc))
     (λ high. rw high (IsPermutation-cons one _ _ (class_comes host class more (rw (matches host one.host Greater high) at free))))
-
--- this host's class set where it stands
-abbrev pub reclassed : List ℕ → ℕ → HostClass → HostClass
-reclassed host class it = if bytes_eq it.host host then record it { class = class } else it
-
-none_behind : (host : List ℕ) (classes : List HostClass) → AllByRecursion (λ (it : HostClass). below host it.host) classes → has_class host classes ≡ false
-none_behind host [] up = refl
-none_behind host (one ∷ more) up = rw (matches host one.host Less up.0) (none_behind host more up.1)
-
-left_behind : (host : List ℕ) (class : ℕ) (classes : List HostClass) → AllByRecursion (λ (it : HostClass). below host it.host) classes → map (reclassed host class) classes ≡ classes
-left_behind host class [] up = refl
-left_behind host class (one ∷ more) up = rw (matches host one.host Less up.0) (ap (λ its. one ∷ its) (left_behind host class more up.1))
-
-stays-set : (host : List ℕ) (class : ℕ) (classes : List HostClass) → Ascends Before classes → has_class host classes ≡ true → with_class host class classes ≡ map (reclassed host class) classes
-stays-set host class [] up on = absurd (cc)
-stays-set host class (one ∷ more) up on = by_order (order host one.host)
-    (λ low. absurd (let behind = each_so (Before one) (λ it. below host it.host) (λ it after. nat_list_cmp_total.trans host one.host it.host low after) more up.0 in let none : has_class host (one ∷ more) ≡ false = none_behind host (one ∷ more) (low, behind) in let both : true ≡ false = sym on ∙ none in cc))
-    (λ tie.
-    let same = one_name host one.host tie in
-    let behind = subst (λ name. AllByRecursion (λ (it : HostClass). below name it.host) more) (sym same) up.0 in
-    rw (tie, matches host one.host Equal tie, left_behind host class more behind) (ap (λ name. record { host = name; class = class } ∷ more) same))
-    (λ high. rw (high, matches host one.host Greater high) (ap (λ its. one ∷ its) (stays-set host class more up.1 (rw (matches host one.host Greater high) at on))))
-
--- a host that had one gets it where it stands
-pub class_stays : (host : List ℕ) (class : ℕ) (classes : List HostClass) → AreInOrder classes → has_class host classes ≡ true
-    → with_class host class classes ≡ map (reclassed host class) classes
-class_stays host class classes up on = stays-set host class classes (pairs_ascend Before classes up) on

@@ -1,16 +1,15 @@
 -- What one grant more makes of the hosts.
-use Rattle.std.proofs.Common.{◌≡◌, ℕ, suc, ◌+◌, List, [], ◌∷◌, ◌++◌, length, zero-add, map, filter, bytes_eq, Bool, true, false, cond, if◌then◌else◌, ◌||◌, Ordering, Less, Equal, Greater, nat_cmp, is_eq, IsPermutation, sum_by, refl, sym, ap, subst, ◌∙◌, arith}
+use Rattle.std.proofs.Common.{◌≡◌, ℕ, suc, ◌+◌, List, [], ◌∷◌, ◌++◌, length, map, filter, bytes_eq, Bool, true, false, cond, if◌then◌else◌, ◌||◌, Ordering, Less, Equal, Greater, nat_cmp, is_eq, IsPermutation, sum_by, refl, sym, ap, ◌∙◌, arith}
 use Rattle.std.specs.Prelude.{⊤}
 use Rattle.std.specs.List.{list_any, AllByRecursion, AllPairs}
 use Rattle.std.specs.Cmp.Lexicographic.{slice_cmp, texts_ties}
 use Rattle.std.specs.Ordering.{ordering_reverse}
 use Rattle.std.proofs.lemmas.Bool.{or_parts}
-use Rattle.std.proofs.lemmas.Cmp.{nat_list_cmp_total, nat_list_eq_equiv, alike_right}
-use Rattle.std.proofs.lemmas.List.{map-append}
-use Rattle.std.proofs.lemmas.List.Elements.{All-from_recursion, filter-append, recursion_from_All}
+use Rattle.std.proofs.lemmas.Cmp.{nat_list_cmp_total, alike_right}
+use Rattle.std.proofs.lemmas.List.Elements.{All-from_recursion, recursion_from_All}
 use Rattle.std.proofs.lemmas.List.Kept.{AllPairs-cons}
-use Rattle.std.proofs.lemmas.List.Sums.{sum_by-append, sum_by_push, length-filter}
-use Rattle.std.proofs.lemmas.List.Sorted.{IsPermutation-cons, IsPermutation-refl, IsPermutation-to_front, IsPermutation-map}
+use Rattle.std.proofs.lemmas.List.Sums.{sum_by_push, length-filter}
+use Rattle.std.proofs.lemmas.List.Sorted.{IsPermutation-cons, IsPermutation-refl, IsPermutation-to_front}
 use Rattle.std.proofs.lemmas.Slice.Eq.{bytes_eq-Decides}
 use Rattle.wu_core.specs.declared.workunit.Grant.{Grant}
 use Rattle.wu_core.specs.Hosts.{is_to, credit_of, grants_of, with_host, hosts_of}
@@ -135,21 +134,10 @@ pub once : (grants : List Grant) → Ascends below (hosts_of grants)
 once [] = tt
 once (g ∷ grants) = rises g.host (hosts_of grants) (once grants)
 
-differ : (hosts : List (List ℕ)) → Ascends below hosts → Ascends (λ a b. bytes_eq a b ≡ false) hosts
-differ [] up = tt
-differ (h ∷ hosts) up = (each_so (below h) (λ b. bytes_eq h b ≡ false) (λ b low. texts_ties h b ∙ ap is_eq low) hosts up.0, differ hosts up.1)
-
-pub apart : (grants : List Grant) → Ascends (λ a b. bytes_eq a b ≡ false) (hosts_of grants)
-apart grants = differ (hosts_of grants) (once grants)
-
 -- the last grant's host comes to its place
 pub hosts_more : (grants : List Grant) (g : Grant) → hosts_of (grants ++ g ∷ []) ≡ with_host g.host (hosts_of grants)
 hosts_more [] g = refl
 hosts_more (one ∷ grants) g = ap (with_host one.host) (hosts_more grants g) ∙ host_joins one.host g.host (hosts_of grants)
-
--- its host's credit is more, and no other's
-pub credit_more : (grants : List Grant) (g : Grant) (host : List ℕ) → credit_of (grants ++ g ∷ []) host ≡ (if bytes_eq g.host host then credit_of grants host + g.credit else credit_of grants host)
-credit_more grants g host = ap (sum_by (λ (grant : Grant). grant.credit)) (filter-append (is_to host) grants (g ∷ [])) ∙ sum_by-append (λ (grant : Grant). grant.credit) (filter (is_to host) grants) (cond (bytes_eq g.host host) (g ∷ []) []) ∙ grind arith
 
 -- its host has one more, and no other
 pub grants_more : (grants : List Grant) (g : Grant) (host : List ℕ) → grants_of (grants ++ g ∷ []) host ≡ (if bytes_eq g.host host then grants_of grants host + 1 else grants_of grants host)
@@ -174,37 +162,3 @@ no_grants grants name free = sym (length-filter (is_to name) grants) ∙ ap leng
 -- each host with its credit and how many grants it has
 abbrev pub host_list : {X : Type 0} → (List ℕ → ℕ → ℕ → X) → List Grant → List X
 host_list cells grants = map (λ name. cells name (credit_of grants name) (grants_of grants name)) (hosts_of grants)
-
-module _ {X : Type 0} (cells : List ℕ → ℕ → ℕ → X) (grants : List Grant) (g : Grant) where
-  abbrev old_cells : List ℕ → X
-  old_cells name = cells name (credit_of grants name) (grants_of grants name)
-
-  abbrev new_cells : List ℕ → X
-  new_cells name = cells name (credit_of (grants ++ g ∷ []) name) (grants_of (grants ++ g ∷ []) name)
-
-  -- with one grant more, only its host has other cells
-  changed : (name : List ℕ) → new_cells name ≡ (if bytes_eq name g.host then cells name (credit_of grants name + g.credit) (grants_of grants name + 1) else old_cells name)
-  changed name = rw (nat_list_eq_equiv.symm name g.host) ((λ i. cells name (credit_more grants g name i) (grants_more grants g name i)) ∙ grind arith)
-
-  -- the others have the cells that they had
-  others : (hosts : List (List ℕ)) → is_among g.host hosts ≡ false → map new_cells hosts ≡ map old_cells hosts
-  others [] free = refl
-  others (h ∷ hosts) free =
-      let parts = or_parts (bytes_eq h g.host) (is_among g.host hosts) free in
-      let first : new_cells h ≡ old_cells h = rw (changed h, parts.0) refl in
-      (λ i. first i ∷ others hosts parts.1 i)
-
-  -- a host with its first grant comes beside the others
-  pub new_host : is_among g.host (hosts_of grants) ≡ false → IsPermutation (host_list cells grants ++ cells g.host g.credit 1 ∷ []) (host_list cells (grants ++ g ∷ []))
-  new_host free =
-      let itself : bytes_eq g.host g.host ≡ true = nat_list_eq_equiv.refl g.host in
-      let last : new_cells g.host ≡ cells g.host g.credit 1 = rw (changed g.host, itself, no_credit grants g.host free, no_grants grants g.host free, zero-add g.credit) refl in
-      let shown : map new_cells (hosts_of grants ++ g.host ∷ []) ≡ host_list cells grants ++ cells g.host g.credit 1 ∷ [] =
-      map-append new_cells (hosts_of grants) (g.host ∷ []) ∙ (λ i. others (hosts_of grants) free i ++ last i ∷ []) in
-      let moved = IsPermutation-map new_cells _ _ (host_comes g.host (hosts_of grants) free) in
-      subst (λ xs. IsPermutation xs (map new_cells (hosts_of (grants ++ g ∷ [])))) shown (subst (λ hs. IsPermutation (map new_cells (hosts_of grants ++ g.host ∷ [])) (map new_cells hs)) (sym (hosts_more grants g)) moved)
-
-  -- a host that had a grant changes where it stands, and no other does
-  pub grown_host : is_among g.host (hosts_of grants) ≡ true
-      → host_list cells (grants ++ g ∷ []) ≡ host_list (λ name total count. if bytes_eq name g.host then cells name (total + g.credit) (count + 1) else cells name total count) grants
-  grown_host on = ap (map new_cells) (hosts_more grants g ∙ host_stays g.host (hosts_of grants) (once grants) on) ∙ (λ i. map (λ name. changed name i) (hosts_of grants))

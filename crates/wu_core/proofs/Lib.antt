@@ -1,6 +1,6 @@
 pub mod ClassLemmas
 pub mod HostLemmas
 pub mod MaskLemmas
-mod NameLemmas
-mod ParameterLemmas
+pub mod NameLemmas
+pub mod ParameterLemmas
 mod ResultNameLemmas

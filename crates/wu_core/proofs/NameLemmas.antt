@@ -10,7 +10,7 @@ use Rattle.wu_core.specs.Names.{is_name, is_name_byte}
 byte_is_ascii : (byte : ℕ) → is_name_byte byte ≡ true → byte < 128
 byte_is_ascii byte h = grind (arith, nat_tests)
 
-second : (a b : Bool) → (a && b) ≡ true → b ≡ true
+pub second : (a b : Bool) → (a && b) ≡ true → b ≡ true
 second true b h = h
 second false b h = cc
 

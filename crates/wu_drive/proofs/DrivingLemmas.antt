@@ -78,7 +78,7 @@ never_whole fault told = absurd (cc)
 there_is : {X : Type 0} (xs : List X) (i : ℕ) (x d : X) → i < length xs → get_or xs i d ≡ x → slice_get xs i ≡ Some x
 there_is xs i x d low there = slice_get-get_or xs i d low ∙ ap (λ y. Some y) there
 
-same_command : (one other : Command) → ◌≡◌ {A = Option Command} (Some one) (Some other) → one ≡ other
+pub same_command : (one other : Command) → ◌≡◌ {A = Option Command} (Some one) (Some other) → one ≡ other
 same_command one other same = cc
 
 -- what broke in a part of a call broke in the call

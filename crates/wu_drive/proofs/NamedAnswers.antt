@@ -12,6 +12,7 @@ use Rattle.wu_core.specs.Codes.{import_kind_code}
 use Rattle.wu_core.specs.Parameters.{Parameters}
 use Rattle.wu_core.specs.Storable.{IsName, IsStorable}
 use Rattle.wu_core.specs.World.{World, Import, is_import}
+use Rattle.wu_core.proofs.NameLemmas.{second}
 use Rattle.wu_feed.specs.declared.jobs.Job.{Job}
 use Rattle.wu_feed.specs.Classes.{classes_of_file}
 use Rattle.wu_feed.specs.Jobs.{jobs_of_file}
@@ -46,10 +47,6 @@ found_passes {X} p (x ∷ xs) = by_test (p x) refl (found_passes p xs)
     by_test : (b : Bool) → p x ≡ b → IfSome (find p xs) (λ y. p y ≡ true) → IfSome (cond b (Some x) (find p xs)) (λ y. p y ≡ true)
     by_test true is rest = is
     by_test false is rest = rest
-
-second : (a b : Bool) → (a && b) ≡ true → b ≡ true
-second true b h = h
-second false b h = cc
 
 -- ---- imports
 

@@ -3,10 +3,9 @@
 /// The words in lower case, a line each for what they are, the words, and the topic that explains them. Of the lines that
 /// have a word the first explains it where it stands alone: `class` is why a row was skipped before it is a column.
 ///
-/// `number` and `fault` are the two names of a fault, and the name of F17 alone is a cause of F3. A `report` is what a
-/// check, a backup or outputs print, an `answer` what a command does, a `reading` what a lint does, and a `usage` what is
-/// said of a command line, each by its first word. After `cannot` and `unknown` stands what could not be done or is
-/// invalid.
+/// `number` and `fault` are the two names of a fault, and the name of F17 alone is a cause of F3. What is printed is found
+/// by its first word: a `report` is of a check, a backup or outputs, an `answer` of a command, a `reading` of a lint, and a
+/// `usage` of a command line. After `cannot` and `unknown` stands what could not be done or is invalid.
 pub const INDEX: &str = "view: workunits -> view workunits
 view: results -> view results
 view: hosts -> view hosts
@@ -89,7 +88,7 @@ answer: transition: validate: assimilate: delete: purge: -> passes
 answer: cancel -> cancels
 answer: upgrade: -> upgrade
 reading: in found: wanted: wanted -> lint
-usage: error: usage: -> status 2
+usage: error: usage: tip: -> status 2
 cannot: open -> openings
 cannot: make -> backups
 cannot: write -> outputs

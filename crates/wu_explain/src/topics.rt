@@ -141,6 +141,7 @@ fn topic_of_ok(second: &str) -> Option<&'static str> {
 fn begins_opening(first: &str, second: &str, third: &str, fourth: &str) -> bool {
     match (first, second) {
         ("made", _) => !second.is_empty(),
+        ("lintelthyme:", "opening") => true,
         ("its", "name") | ("its", "log") | ("its", "file") => true,
         ("it", "is") | ("it", "has") => true,
         ("something", "else") => true,
@@ -171,7 +172,9 @@ fn topic_of_lowered(first: &str, second: &str, third: &str, fourth: &str) -> Opt
         ("unknown", word) if !word.is_empty() => topic_of("unknown", word),
         (_, "skipped:") => Some("skips"),
         ("host", _) if third == "errors" => Some("waits"),
-        ("the", "words") | ("a", "value") => Some("status 2"),
+        ("the", "words") | ("a", "value") | ("for", "more") => Some("status 2"),
+        // a progress line, of a script or another command that takes long
+        ("lintelthyme:", _) => Some("scripts"),
         ("out", "of") => Some("F14"),
         (_, "max_total_results") if third == "is" => Some("template"),
         ("ok", _) => topic_of_ok(second),

@@ -37,10 +37,6 @@ decimal_text text is =
     let each = AllPass-from_list_all is_ascii_digit text (parts text is).2 in
     IsUtf8-from_ascii text (IsAscii-from_all text (λ k d within. digit_is_ascii _ (each k d within)))
 
--- text that is not digits writes no class
-pub other_class : (text : List ℕ) → is_decimal text ≡ false → None ≡ class_written text
-other_class text not_one = rw not_one refl
-
 -- what is read of digits as a number of 16 bits is the class, or there is none
 pub class_parsed : (text : List ℕ) (class : ℕ) → is_decimal text ≡ true → ParsesUnsigned {E = ℕ} 16 10 text (Ok class) → Some class ≡ class_written text
 class_parsed text class is read =

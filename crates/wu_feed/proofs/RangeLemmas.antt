@@ -3,7 +3,7 @@ use Rattle.std.proofs.Common.{◌≡◌, ◌≤◌, ◌<◌, ◌+◌, ◌-◌, �
 use Rattle.std.proofs.lemmas.Bool.{and_parts}
 use Rattle.std.proofs.lemmas.Bool.Decides.{nat_tests}
 use Rattle.std.specs.Char.{is_ascii_digit}
-use Rattle.std.specs.List.{AllByRecursion, before_last, after_last, list_any}
+use Rattle.std.specs.List.{before_last, after_last, list_any}
 use Rattle.hex.specs.Hex.{decode_of}
 use Rattle.wu_core.specs.Classes.{AreClassed, IsClassed}
 use Rattle.wu_core.specs.Limits.{highest_class, highest_quorum, highest_target, last_moment, longest_input, longest_delay, longest_output, most_credit, most_instances}
@@ -22,6 +22,7 @@ use Rattle.wu_core.specs.declared.name.ResultName.{ResultName}
 use Rattle.wu_core.specs.declared.states.Status.{Status}
 use Rattle.wu_core.specs.declared.states.Status.TheVariants as status
 use Rattle.wu_core.specs.declared.workunit.HostClass.{HostClass}
+use Rattle.wu_core.proofs.ParameterLemmas.{all_passed}
 use Rattle.toml.specs.Data.{Members}
 use Rattle.wu_feed.specs.Classes.{class_written, classed, classes_header, classes_of_file, host_class_of, host_class_of_fields, host_class_of_two}
 use Rattle.wu_feed.specs.Fields.{two_of}
@@ -232,12 +233,6 @@ whole_within low high (Some (pos n)) is =
     (grind (arith, nat_tests, parts.0), grind (arith, nat_tests, parts.1))
 whole_within low high (Some (negsuc n)) is = cc is
 whole_within low high None is = cc is
-
--- where no test fails, each one passed
-all_passed : (tests : List (TemplateKey × Bool)) → find (λ test. not test.1) tests ≡ None → AllByRecursion (λ test. test.1 ≡ true) tests
-all_passed [] none = tt
-all_passed ((key, true) ∷ more) none = (refl, all_passed more none)
-all_passed ((key, false) ∷ more) none = cc none
 
 -- a target that a template may set is one that a workunit may have
 raisable : (target : ℕ) → target ≤ highest_quorum → target ≤ highest_target

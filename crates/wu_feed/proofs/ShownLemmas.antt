@@ -1,5 +1,5 @@
 -- A field that is shown is ASCII, and so it is text.
-use Rattle.std.proofs.Common.{◌≡◌, ◌∙◌, ℕ, ◌<◌, Bool, true, false, ◌&&◌, List, length, map, nat_le, None, Some, IsUtf8, ap, arith, sym}
+use Rattle.std.proofs.Common.{◌≡◌, ◌∙◌, ℕ, ◌<◌, true, ◌&&◌, List, length, map, nat_le, None, Some, IsUtf8, ap, arith, sym}
 use Rattle.std.proofs.lemmas.Bool.Decides.{nat_tests}
 use Rattle.std.proofs.lemmas.List.Sums.{AllPass-from_list_all}
 use Rattle.std.proofs.lemmas.Str.{IsUtf8-from_ascii}
@@ -11,13 +11,10 @@ use Rattle.csv.specs.Records.{field_at}
 use Rattle.wu_feed.specs.Limits.{most_shown}
 use Rattle.wu_feed.specs.Rows.{first_records_of}
 use Rattle.wu_feed.specs.Shown.{is_printable, is_shown, shown, shown_at}
+use Rattle.wu_core.proofs.NameLemmas.{second}
 
 printable_is_ascii : (byte : ℕ) → is_printable byte ≡ true → byte < 128
 printable_is_ascii byte h = grind (arith, nat_tests)
-
-second : (a b : Bool) → (a && b) ≡ true → b ≡ true
-second true b h = h
-second false b h = cc
 
 pub shown_is_text : (field : List ℕ) → is_shown field ≡ true → IsUtf8 field
 shown_is_text field h =

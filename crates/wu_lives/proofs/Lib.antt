@@ -1,2 +1,2 @@
-mod ReopeningLemmas
+pub mod ReopeningLemmas
 mod RunsLemmas

@@ -30,7 +30,7 @@ use Rattle.wu_drive.proofs.LifeLemmas.{life_more}
 use Rattle.std.proofs.lemmas.Bool.{cases_eq}
 use Rattle.wu_drive.proofs.DrivingLemmas.{fold_more}
 
-next_world : (world : World) (commands : List Command) (i : ℕ) (command : Command) → slice_get commands i ≡ Some command
+pub next_world : (world : World) (commands : List Command) (i : ℕ) (command : Command) → slice_get commands i ≡ Some command
     → world_after world commands (i + 1) ≡ step (world_after world commands i) (request_of command)
 next_world world commands i command there =
     ap (λ cs. fold_steps world (map request_of cs)) (take_more commands i command (slice_get_within commands i command there) ∙ ap (λ c. take i commands ++ c ∷ []) (get_or_from_slice_get commands i command command there))

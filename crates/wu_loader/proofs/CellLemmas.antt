@@ -1,21 +1,14 @@
 -- Which rows of a tree a question shows as they are.
-use Rattle.wu_schema.proofs.Words.{Column, Database, Has, IsDatabase, List, Null, Option, Row, Some, Table, Value, [], all_has, and_parts, ap, arith, column, drop, length, map, refl, suc, sym, true, zero, ℕ, ◌+◌, ◌-◌, ◌<◌, ◌∙◌, ◌∷◌, ◌≡◌, ◌≢◌, ◌≤◌, add-one}
+use Rattle.wu_schema.proofs.Words.{Column, Database, Has, IsDatabase, List, Null, Option, Row, Some, Table, Value, [], all_has, and_parts, ap, arith, column, drop, length, map, refl, suc, sym, true, zero, ℕ, ◌+◌, ◌-◌, ◌<◌, ◌∙◌, ◌∷◌, ◌≡◌, ◌≢◌, ◌≤◌}
 use Rattle.std.specs.List.{range_with_len}
 use Rattle.sqlite_schema.specs.Rules.{are_typed}
 use Rattle.sqlite_schema.specs.declared.schema.Constraint.TheVariants.{Datatype}
 use Rattle.sqlite_sql.specs.Ops.{is_null}
 use Rattle.sqlite.specs.declared.types.Value.TheVariants.{Int, Real, Text, Blob}
-use Rattle.wu_schema.proofs.ReadingLemmas.{as_columns}
+use Rattle.wu_schema.proofs.ReadingLemmas.{as_columns, shifted}
 use Rattle.wu_loader.specs.Shown.{behind_key, keyed, unkeyed}
 
 -- ---- a row and its columns
-
-next_column : (v : Value) (row : Row) (a : ℕ) → column (v ∷ row) (a + 1) ≡ column row a
-next_column v row a = rw add-one refl
-
-shifted : (v : Value) (row : Row) (a n : ℕ) → map (column (v ∷ row)) (range_with_len (a + 1) n) ≡ map (column row) (range_with_len a n)
-shifted v row a zero = refl
-shifted v row a (suc n) = rw (next_column v row a, shifted v row (a + 1) n) refl
 
 -- a column with something in it is there
 far : (row : Row) (n : ℕ) → column row n ≢ Null → n < length row

@@ -1,5 +1,6 @@
 -- The classes of hosts in order of their names, and those of workunits.
 use Rattle.wu_schema.proofs.Words.{AllByRecursion, None, World, flat_map, instances_of, IsPermutation, IsSorted, List, Row, Some, Workunit, [], ap, arith, class_cells, column, length, length-map, map, map-append, map-map, number, on_total, refl, slice_get, subst, suc, sym, take, workunit_row, zero, ℕ, ◌++◌, ◌+◌, ◌-◌, ◌<◌, ◌∙◌, ◌∷◌, ◌≡◌, ◌≢◌}
+use Rattle.wu_schema.proofs.ReadingLemmas.{same_class}
 use Rattle.wu_store.specs.Loading.{classless}
 use Rattle.std.specs.Cmp.{IsTotalOrder}
 use Rattle.std.specs.Prelude.{All}
@@ -10,7 +11,7 @@ use Rattle.sqlite_trees.proofs.ListLemmas.{all-map, all_of, all_weaker, flat_map
 use Rattle.wu_core.specs.Classes.{AreInOrder}
 use Rattle.wu_core.specs.Storable.{IsStorable}
 use Rattle.wu_core.specs.declared.workunit.HostClass.{HostClass}
-use Rattle.wu_store.proofs.SameWorld.{read_number, read_text}
+use Rattle.wu_store.proofs.SameWorld.{read_number}
 use Rattle.wu_loader.specs.Classing.{by_host, numbers, numbers_classed, AreClassedBy, AreOfOthers, AreRising}
 use Rattle.wu_loader.specs.Rows.{classed_of, classed_row, IsStoredClass}
 use Rattle.wu_loader.specs.Whole.{DiffersAt, IsNoRow}
@@ -29,14 +30,11 @@ by_host_total = on_total (λ (it : HostClass). it.host) nat_list_cmp_total
 pub rising_in_order : (classes : List HostClass) → AreRising classes → AreInOrder classes
 rising_in_order classes up = in_pairs by_host classes (ascending by_host by_host_total classes up)
 
-one_host : (a b : HostClass) → class_cells a ≡ class_cells b → a ≡ b
-one_host a b same = λ i. record { host = read_text (column (same i) 0); class = read_number (column (same i) 1) }
-
 -- sorted ones that have the rows of ones in order are those
 pub rising_must : (classes sorted : List HostClass) → AreInOrder classes → IsSorted by_host sorted → IsPermutation (map class_cells classes) (map class_cells sorted) → AreRising sorted
 rising_must classes sorted in_order up same =
     let rises : AreRising classes = pairs_rise by_host classes in_order in
-    let is = named_are (λ (it : HostClass). it.host) class_cells (λ it. refl) one_host classes sorted (ascending by_host by_host_total classes rises) up same in
+    let is = named_are (λ (it : HostClass). it.host) class_cells (λ it. refl) same_class classes sorted (ascending by_host by_host_total classes rises) up same in
     subst AreRising (sym is) rises
 
 -- ---- the classes of workunits

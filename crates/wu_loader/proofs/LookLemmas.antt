@@ -3,6 +3,7 @@ use Rattle.wu_schema.proofs.Words.{Database, Err, Fault, Ghosts, HasCleanDisk, H
 use Rattle.wu_core.specs.declared.fault.Fault.TheVariants.{Broken, Memory}
 use Rattle.wu_schema.proofs.AskingLemmas.{asks_fault, asks_made, asks_now, asks_then}
 use Rattle.wu_loader.specs.Asked.{HasArranged, LooksAtTables}
+use Rattle.wu_store.proofs.AskLemmas.{never_err}
 
 -- what holds of the tables after some answers
 abbrev pub Known : Type 1
@@ -11,9 +12,6 @@ Known = Database → ProjectTrees → Type 0
 abbrev pub HasLooked : {S : Type 0} → ℕ → Ghosts S → Held S → Held S → Known → Type 0
 HasLooked version g old new Is = LooksAtTables {T = Unit {0}} version g old new (Ok tt) (λ db trees _. Is db trees)
 
-pub never_broken : {T : Type 0} (x : T) → ◌≢◌ {A = Result T Fault} (Ok x) (Err Broken)
-never_broken x is = absurd cc
-
 pub memory_other : {T : Type 0} → ◌≢◌ {A = Result T Fault} (Err Memory) (Err Broken)
 memory_other is = absurd cc
 
@@ -21,7 +19,7 @@ module _ {S : Type 0} (version : ℕ) (g : Ghosts S) (a b : Held S) where
   -- the first answer
   pub looked : {T : Type 0} (x : T) (Is : Database → ProjectTrees → T → Type 0) → LooksAtTables version g a b (Ok x) Is → HasLooked version g a b (λ db trees. Is db trees x)
   looked x Is it = record {
-    asks = asks_made g a b x (Ok tt) (never_broken tt) it.asks;
+    asks = asks_made g a b x (Ok tt) (never_err tt) it.asks;
     opens = it.opens;
     says = it.says;
     fault = tt;
@@ -31,7 +29,7 @@ module _ {S : Type 0} (version : ℕ) (g : Ghosts S) (a b : Held S) where
   -- what is made of the answers
   pub looks_made : {U : Type 0} (Is : Known) (y : U) (Then : Database → ProjectTrees → U → Type 0) → ((db : Database) (trees : ProjectTrees) → Is db trees → Then db trees y) → HasLooked version g a b Is → LooksAtTables version g a b (Ok y) Then
   looks_made Is y Then made it = record {
-    asks = asks_made g a b tt (Ok y) (never_broken y) it.asks;
+    asks = asks_made g a b tt (Ok y) (never_err y) it.asks;
     opens = it.opens;
     says = λ clean trees has. made (state g a).now trees (it.says clean trees has);
     fault = tt;
@@ -73,7 +71,7 @@ module _ {S : Type 0} (version : ℕ) (g : Ghosts S) (a b c : Held S) (Is : Know
   -- one more answer
   pub looks_next : {T : Type 0} (x : T) (Then : Database → ProjectTrees → T → Type 0) → LooksAtTables version g b c (Ok x) Then → HasLooked version g a c (λ db trees. Is db trees × Then db trees x)
   looks_next x Then two = record {
-    asks = asks_then g a b c tt one.asks (Ok tt) (asks_made g b c x (Ok tt) (never_broken tt) two.asks);
+    asks = asks_then g a b c tt one.asks (Ok tt) (asks_made g b c x (Ok tt) (never_err tt) two.asks);
     opens = two.opens;
     says = λ clean trees has. (
       one.says (before (Ok x) Then two clean) trees has,

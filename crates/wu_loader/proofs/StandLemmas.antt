@@ -34,6 +34,11 @@ same_mapped f g (r ∷ rows) same = λ i. same r (inl refl) i ∷ same_mapped f 
 mapped_some : {X : Type 0} (f : X → Row) (xs : List X) (at : ℕ) → ((x : X) → column (f x) at ≢ Null) → (cell : Row) → Has (map f xs) cell → column cell at ≢ Null
 mapped_some f xs at some cell has empty = let it = has_mapped f xs cell has in some it.0 (sym (ap (λ r. column r at) it.2) ∙ empty)
 
+-- each row has all cells
+pub all_whole : {X : Type 0} (count : ℕ) (stored : X → Row) → ((x : X) → length (stored x) ≡ count + 1) → (xs : List X) → AreWhole count (map stored xs)
+all_whole count stored long [] = tt
+all_whole count stored long (x ∷ xs) = (long x, all_whole count stored long xs)
+
 -- ---- from what is shown to what is stored
 
 -- a row of any table of a sound database is typed

@@ -1,9 +1,8 @@
 -- What the changes of a pass make of a world is what the pass makes of it.
-use Rattle.std.proofs.Common.{◌≡◌, ℕ, zero, suc, ◌<◌, ◌==◌, Bool, true, false, if◌then◌else◌, List, [], ◌∷◌, ◌++◌, Option, Some, None, Ok, Err, refl, ap, ◌∙◌, inl, inr, arith, append-nil, take}
+use Rattle.std.proofs.Common.{◌≡◌, ℕ, zero, suc, ◌<◌, ◌==◌, Bool, true, false, if◌then◌else◌, List, [], ◌∷◌, ◌++◌, Option, Some, None, Ok, refl, ap, ◌∙◌, inl, inr, arith, append-nil, take}
 use Rattle.std.proofs.lemmas.Bool.{cases_Bool, eq-eqb, ne_eqb}
 use Rattle.std.specs.List.{AllByRecursion, filter, flat_map}
 use Rattle.std.specs.Prelude.{not, ◌||◌}
-use Rattle.wu_core.specs.declared.fault.Fault.TheVariants.{BadLimit}
 use Rattle.wu_core.specs.declared.workunit.Workunit.{Workunit}
 use Rattle.wu_core.specs.World.{World}
 use Rattle.wu_rules.specs.Assimilation.{assimilated, emptied}
@@ -99,10 +98,6 @@ part_all P none all = tt
 part_all P (taken part) all = (all.0, part_all P part all.1)
 part_all P (left part) all = part_all P part all.1
 
-pub all_then : (P Q : Workunit → Type 0) → ((w : Workunit) → P w → Q w) → (ws : List Workunit) → AllByRecursion P ws → AllByRecursion Q ws
-all_then P Q next [] all = tt
-all_then P Q next (w ∷ ws) all = (next w all.0, all_then P Q next ws all.1)
-
 -- all numbers of the list are above
 abbrev pub Above : ℕ → List Workunit → Type 0
 Above number = AllByRecursion (λ (w : Workunit). number < w.number)
@@ -162,6 +157,3 @@ module _ (world : World) (is : IsUpToDate world) (pass : Pass) (now limit min_ag
   pub pass_asked : is_limit_right pass limit min_age ≡ true
       → done world (AskPass pass now limit min_age) ≡ Ok (Passed pass (handled pass now min_age limit world), passed pass now min_age limit world)
   pass_asked right = asked_pass ∙ rw right refl
-
-  pub pass_refused : is_limit_right pass limit min_age ≡ false → done world (AskPass pass now limit min_age) ≡ Err BadLimit
-  pass_refused wrong = asked_pass ∙ rw wrong refl

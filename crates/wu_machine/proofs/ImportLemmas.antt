@@ -2,7 +2,7 @@
 use Rattle.std.proofs.Common.{◌≡◌, ℕ, ◌+◌, length, ◌==◌, nat_lt, Bool, true, false, not, ◌&&◌, if◌then◌else◌, List, [], ◌∷◌, ◌++◌, find, bytes_eq, Option, Some, None, Result, Ok, Err, refl, sym, ap, ◌∙◌, subst, append_assoc, append-nil}
 use Rattle.std.proofs.lemmas.Bool.{eq-eqb}
 use Rattle.std.proofs.lemmas.List.Folds.{find-append}
-use Rattle.std.proofs.lemmas.Slice.Eq.{bytes_eq-Decides}
+use Rattle.std.proofs.lemmas.Cmp.{nat_list_eq_equiv}
 use Rattle.std.specs.Option.{option_or}
 use Rattle.wu_core.specs.declared.fault.Fault.{Fault}
 use Rattle.wu_core.specs.declared.fault.Fault.TheVariants.{BadLimit, NameUsed, OldSchema, UnknownWorkunit, NotOpenToCancel, TooMany}
@@ -208,19 +208,16 @@ kept_stays world after given answer kept stays = record {
   version = stays.version kept.version;
 }
 
-same_bytes : (xs : List ℕ) → bytes_eq xs xs ≡ true
-same_bytes xs = (bytes_eq-Decides xs xs).1 refl
-
 both : (a b : Bool) → a ≡ true → b ≡ true → (a && b) ≡ true
 both true b x y = y
 both false b x y = x
 
 -- what is kept is found by what it was given as, with its content
 kept_is_of : (given : Given) (first : ℕ) (verdicts : List ℕ) → is_import given.kind given.name (kept_import given first verdicts) ≡ true
-kept_is_of given first verdicts = both _ _ (eq-eqb (import_kind_code given.kind) (import_kind_code given.kind) refl) (same_bytes given.name)
+kept_is_of given first verdicts = both _ _ (eq-eqb (import_kind_code given.kind) (import_kind_code given.kind) refl) (nat_list_eq_equiv.refl given.name)
 
 kept_has_content : (given : Given) (first : ℕ) (verdicts : List ℕ) → has_content given (kept_import given first verdicts) ≡ true
-kept_has_content given first verdicts = both _ _ (same_bytes given.template) (same_bytes given.content)
+kept_has_content given first verdicts = both _ _ (nat_list_eq_equiv.refl given.template) (nat_list_eq_equiv.refl given.content)
 
 -- it is found where none was before, and after the imports that are there
 found_last : (given : Given) (imports : List Import) (one : Import) → find (is_import given.kind given.name) imports ≡ None → is_import given.kind given.name one ≡ true

@@ -14,7 +14,8 @@ use Rattle.wu_core.specs.declared.workunit.HostClass.{HostClass}
 use Rattle.wu_core.specs.declared.workunit.Workunit.{Workunit}
 use Rattle.wu_rules.specs.Consistent.{HostsApart, KeepsHosts, KeepsVerdicts, is_done, one_if}
 use Rattle.wu_rules.specs.Counts.{is_clear}
-use Rattle.wu_rules_laws.proofs.Verdicts.{verdicts_then, verdicts_unchanged}
+use Rattle.wu_rules_laws.proofs.Verdicts.{verdicts_unchanged}
+use Rattle.wu_rules_laws.proofs.Following.{kept_then}
 use Rattle.wu_machine.specs.Batches.{is_one_of, taken_names}
 use Rattle.wu_machine.specs.Sound.{IsRecorded, IsSound}
 use Rattle.wu_machine_laws.proofs.Middles.{around, count_none}
@@ -96,7 +97,7 @@ lasts_then one two three first second = record {
             number = on.number ∙ before.number;
             name = on.name ∙ before.name;
             canonical = λ n is. on.canonical n (before.canonical n is);
-            verdicts = verdicts_then its.0 u v before.verdicts on.verdicts;
+            verdicts = kept_then its.0 u v before.verdicts on.verdicts;
             given_up = λ e. on.given_up (before.given_up e);
             hosts = λ n host is. on.hosts n host (before.hosts n host is);
             apart = λ e. on.apart (before.apart e);

@@ -9,7 +9,7 @@ use Rattle.sqlite.specs.Store.{Ghosts}
 use Rattle.wu_core.specs.declared.fault.Fault.{Fault}
 use Rattle.wu_core.specs.declared.fault.Fault.TheVariants.{Broken, NewSchema, NotAProject}
 use Rattle.wu_core.specs.World.{World, empty_world}
-use Rattle.wu_schema.proofs.CallLemmas.{back_none, back_unchanged}
+use Rattle.wu_schema.proofs.CallLemmas.{back_unchanged}
 use Rattle.wu_schema.proofs.VersionLemmas.{has_understood, project_of, project_row}
 use Rattle.wu_schema.specs.Calls.{BreaksBetween, IsBack, IsDone, IsMade, IsRefused, IsUndone, LeavesOnly}
 use Rattle.wu_schema.specs.Faults.{IsFailure}
@@ -23,7 +23,7 @@ use Rattle.wu_store.specs.Loading.{IsStoreFault}
 use Rattle.wu_store.specs.StandsFor.{StandsFor}
 use Rattle.wu_store.proofs.SameWorld.{one_world}
 use Rattle.wu_passes.specs.Standing.{GoesOn, HasEnded, ShowsWorld, TellsLater}
-use Rattle.wu_passes.specs.Adopting.{Adopts, BeginsFrom, FindsProject, IsAdoptionFault, IsKnownRow, IsRefusalOf, IsVacant, KeepsAll, KnowsVersion, LeavesFresh, LeavesNoMore, older_than_present, RefusesAdoption, RefusesRow, TellsNew}
+use Rattle.wu_passes.specs.Adopting.{Adopts, BeginsFrom, IsAdoptionFault, IsKnownRow, IsVacant, KeepsAll, KnowsVersion, LeavesFresh, LeavesNoMore, older_than_present, RefusesAdoption, RefusesRow, TellsNew}
 use Rattle.wu_passes.specs.declared.project.Project.{Project}
 use Rattle.wu_passes.specs.Projects.{BeginsSession, connection_of, FailsAgain, GoesOnAgain, IsOver, state_of}
 use Rattle.wu_passes.proofs.StandingLemmas.{goes_read}
@@ -162,28 +162,6 @@ fresh_stands old new makes = record { refines = makes.stands; queue = λ _. make
 
 never_vacant : (s : State) (world : World) → Refines s.now world → ¬ IsVacant s
 never_vacant s world stands vacant = absurd (has_understood _ (project_of s.now world stands) vacant)
-
--- ---- a connection in a transaction comes back as it was
-
-pub busy_refused : (s : State) → s.in_transaction ≡ true → RefusesAdoption s s NotAProject
-busy_refused s busy = record {
-  told = inl (inr (inr refl));
-  clean = omega arith;
-  cause = λ clean. record {
-    stored = λ version is. absurd cc;
-    only = λ idle has version of. absurd (let no = sym busy ∙ idle in cc);
-    broken = λ is. absurd cc;
-    vacant = λ vacant. inl refl;
-  };
-  given = λ clean. record {
-    back = back_none s;
-    left = λ db may. inl may;
-    kept = λ there db may. may;
-    whole = λ is. record { now = refl; committed = refl; left = λ db may. may };
-    goes = λ world goes. goes;
-    serves = λ idle. absurd (let no = sym busy ∙ idle in cc);
-  };
-}
 
 -- ---- the question for the version
 
@@ -379,44 +357,9 @@ module _ (old asked : State) (crash : Survives old asked (λ _. ⊥)) (unlimited
 -- ---- what follows
 
 module _ (old new : State) (fault : Fault) (clean : HasCleanDisk new) (refuses : RefusesAdoption old new fault) where
-  -- tables that stand for a world are refused for its later version, or for a failure
-  pub standing_refused : old.in_transaction ≡ false → (world : World) → 1 ≤ world.version → Refines old.now world → IsRefusalOf world.version fault
-  standing_refused idle world first stands = (refuses.cause clean).only idle (project_of old.now world stands) world.version (version_stands old.now world stands first)
-
   -- a row of a version that this program knows is refused for a failure alone
   pub known_refused : old.in_transaction ≡ false → (has : HasProject old.now.schema) (version : ℕ) → HasVersion old.now has version → version ≤ present_version → IsFailure fault
   known_refused idle has version of known = elim ((refuses.cause clean).only idle has version of) [ inl failed ↦ failed | inr later ↦ absurd (omega (arith, later.1, known)) ]
-
-  -- over which a session went on: for its later version, or for a fault of the store
-  pub world_refused : (world : World) → 1 ≤ world.version → GoesOn old world → IsStoreFault fault ⊎ TellsLater world.version fault
-  world_refused world first goes = elim refuses.told [
-    | inl store ↦ inl store
-    | inr (version, later) ↦
-        let why = (refuses.cause clean).stored version later.0 in
-        let stands = (goes.stands why.is_open).0.refines in
-        let same : version ≡ world.version = one_version old.now (project_of old.now world stands) version world.version (why.stored (project_of old.now world stands)) (version_stands old.now world stands first) in
-        inr (subst (λ n. TellsLater n fault) same later)
-  ]
-
-  -- where a project is, what is shown and what a stop may leave is not touched
-  pub found_kept : HasProject old.now.schema → LeavesNoMore old new
-  found_kept has = (refuses.given clean).kept (has_understood _ has)
-
--- only a later version is told as one
-pub told_later : (old new : State) (fault : Fault) (version : ℕ) → RefusesAdoption old new fault → fault ≡ NewSchema version → present_version < version
-told_later old new fault version refuses is = elim refuses.told [
-  | inl store ↦ absurd (never_store store)
-  | inr (one, later) ↦ let same : one ≡ version = let so = sym later.0 ∙ is in cc in subst (λ n. present_version < n) same later.1
-]
-  where
-    never_store : IsStoreFault fault → ⊥
-    never_store (inl wanted) = absurd (let no = sym wanted ∙ is in cc)
-    never_store (inr (inl failed)) = absurd (let no = sym failed ∙ is in cc)
-    never_store (inr (inr refused)) = absurd (let no = sym refused ∙ is in cc)
-
--- a table `project` with its columns is a project that is found
-pub project_found : (old new : State) → Adopts old new → HasCleanDisk new → HasProject old.now.schema → FindsProject old new
-project_found old new adopts clean has = adopts.found clean (has_understood _ has)
 
 -- ---- the older version of a session that begins
 

@@ -2,7 +2,6 @@
 use Rattle.std.proofs.Common.{arith, refl, ◌≡◌, ◌≢◌, ◌≤◌, ◌⊎◌, Bool, true, false, List, [], ◌∷◌, length, Result, Ok, Err, IfErr, IsTrue, OnOk, sym, ap, subst, ◌∙◌, inl, inr}
 use Rattle.sqlite.specs.Effect.{Database}
 use Rattle.sqlite.specs.State.{State, HasCleanDisk, Survives}
-use Rattle.sqlite.specs.Tree.{Trees}
 use Rattle.sqlite_trees.specs.View.{doubt}
 use Rattle.wu_core.specs.declared.fault.Fault.{Fault}
 use Rattle.wu_core.specs.declared.fault.Fault.TheVariants.{Broken, NotAProject}
@@ -57,17 +56,6 @@ pub goes_done : (old new : State) (world : World) (changes : List Change) → St
 goes_done old new world changes stands right is_done =
     let after = is_done.makes.stands world stands right in
     record { stands = λ is_open. (after, is_done.committed); left = λ db may. record { database = new.now; same = sym (is_done.left.only db may); stands = after } }
-
--- they were refused, and all is as before
-pub goes_refused : (old new : State) (world : World) → GoesOn old world → IsUndone old new → IsRefused old new → GoesOn new world
-goes_refused old new world goes undone refused =
-    let was = goes.stands (undone.was_open refused.is_open) in
-    let now : new.now ≡ old.now = refused.now ∙ was.1 in
-    let stands : StandsFor new.now world = subst (λ (d : Database). StandsFor d world) (sym now) was.0 in
-    record {
-      stands = λ is_open. (stands, refused.committed ∙ sym refused.now);
-      left = λ db may. record { database = new.now; same = ap (λ (d : Database). d.trees) refused.now ∙ sym (refused.left.only db may); stands = stands };
-    }
 
 -- they were cut: while the connection is open, all is as before
 goes_undone : (old new : State) (world : World) → GoesOn old world → IsUndone old new → IsTrue new.is_open → GoesOn new world
@@ -250,10 +238,6 @@ from_then old mid new world request ended (Ok answer) kept runs = (
 from_then old mid new world request ended (Err fault) kept runs = (runs.0, runs.1, most_then ended old mid new world request kept runs.2)
 
 -- ---- whether the connection is open
-
--- a call that asks shuts none but where the disk fails in it
-pub survives_open : (old new : State) (Makes : Trees → Type 0) → Survives old new Makes → KeepsOpen old new
-survives_open old new Makes survives clean is_open = survives.closes clean is_open
 
 pub open_self : (s : State) → KeepsOpen s s
 open_self s clean is_open = inl is_open

@@ -6,7 +6,7 @@ use Rattle.std.proofs.Common.{get_or, take, drop, length-take-le, take_all}
 use Rattle.std.proofs.lemmas.List.{length-map, get_or-map, take_more, take-append-drop, take-map}
 use Rattle.std.proofs.lemmas.List.Folds.{find-append}
 use Rattle.std.specs.List.{enumerate_from, list_any}
-use Rattle.std.specs.Prelude.{◌||◌, ◌==◌, All, IfErr, IfOk, IfSome, IsErrAnd, bytes_eq, find, MatchResult}
+use Rattle.std.specs.Prelude.{◌||◌, ◌==◌, All, IfErr, IfOk, IfSome, bytes_eq, find, MatchResult}
 use Rattle.std.proofs.lemmas.List.Elements.{All-head, All-tail}
 use Rattle.wu_core.specs.Codes.{import_kind_code}
 use Rattle.wu_core.specs.declared.fault.Fault.{Fault}
@@ -21,7 +21,7 @@ use Rattle.wu_core.specs.Storable.{AreVerdicts}
 use Rattle.wu_feed.specs.declared.jobs.Job.{Job}
 use Rattle.wu_machine.specs.Batches.{first_taken, is_one_of, job_names, taken_names}
 use Rattle.wu_machine.specs.Sound.{HasVerdicts}
-pub use Rattle.wu_store.proofs.AskLemmas.{asks_done, asks_fault, asks_handed, asks_made, asks_none, asks_stands, asks_then, handed_on}
+pub use Rattle.wu_store.proofs.AskLemmas.{asks_fault, asks_handed, asks_made, asks_none, asks_stands, asks_then, handed_on}
 use Rattle.wu_store.specs.Loading.{IsStoreFault, LoadsImport}
 
 -- a name is taken by a workunit that is present or by an archived one
@@ -124,8 +124,3 @@ all_free world jobs i past free =
 pub told_or : {T : Type 0} (r : Result T Fault) (P : T → Type 0) → IfOk r P → IfErr r IsStoreFault → MatchResult r P IsStoreFault
 told_or (Ok x) P is told = is
 told_or (Err fault) P is told = told
-
--- what `?` answers is the fault that it hands on
-pub handed_is : {U : Type 0} (r : Result U Fault) (fault : Fault) → IsErrAnd r (λ other. other ≡ fault) → r ≡ Err fault
-handed_is (Ok y) fault same = absurd same
-handed_is (Err other) fault same = ap Err same

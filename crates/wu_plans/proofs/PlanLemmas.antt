@@ -1,12 +1,11 @@
 -- The plan of a batch, step by step.
-use Rattle.std.proofs.Common.{◌≡◌, ℕ, ◌+◌, ◌<◌, List, [], ◌∷◌, ◌++◌, length, map, replicate, Ok, sym, ap, ◌∙◌, inl, inr, arith}
+use Rattle.std.proofs.Common.{◌≡◌, ℕ, ◌+◌, ◌<◌, List, [], ◌∷◌, ◌++◌, length, map, replicate, sym, ap, ◌∙◌, arith}
 use Rattle.std.proofs.lemmas.List.{length-map, map-append}
 use Rattle.std.proofs.lemmas.List.FromFn.{length-enumerate_from}
 use Rattle.std.specs.List.{enumerate_from}
 use Rattle.wu_core.specs.Parameters.{Parameters}
 use Rattle.wu_feed.specs.declared.jobs.Job.{Job}
 use Rattle.std.proofs.Common.{Vec, Global, bytes_eq}
-use Rattle.wu_core.specs.Reads.{IsOrWantsMemory}
 use Rattle.wu_core.specs.declared.import.ImportKind.TheVariants as kind
 use Rattle.wu_machine.specs.Batches.{new_workunit}
 use Rattle.wu_machine.specs.Imports.{Given, first_answer}
@@ -54,10 +53,6 @@ pub additions_whole : (params : Parameters) (next : ℕ) (jobs : List Job) (chan
 additions_whole params next jobs changes new are is =
     let long : length changes ≡ length jobs = ap (λ cs. length cs) are ∙ length-map (enumerate_from next jobs) (added params) ∙ length-enumerate_from next jobs in
     is ∙ ap (λ k. changes ++ Next (next + k) ∷ []) long ∙ ap (λ cs. cs ++ Next (next + length jobs) ∷ []) are
-
-pub gives_ok : {T : Type 0} (a b : T) → IsOrWantsMemory (Ok a) (Ok b) → a ≡ b
-gives_ok a b (inl is) = cc
-gives_ok a b (inr memory) = absurd cc
 
 pub new_batch_is : (given : Given) (next first : ℕ) (params : Parameters) (jobs : List Job) (answer : Answer) (kept : Kept) (applied : List ℕ) (changes : Vec Change Global)
     → given.kind ≡ kind.Batch → first ≡ first_of next (length jobs) → KeepsImport given first applied kept → applied ≡ replicate (length jobs) 0

@@ -96,10 +96,6 @@ last_up_to (r ∷ []) last host so = so
 last_up_to (r ∷ q ∷ rest) last host so = last_up_to (q ∷ rest) last host so
 
 module _ (g : Grant) where
-  -- the first sum
-  pub adds_first : SumsAlso g [] (sum_of g ∷ [])
-  adds_first = record { sums = also_begun g []; few = λ few up_to. (tt, tt); up_to = λ host so. so }
-
   module _ (rest : List HostSum) (last : HostSum) where
     -- a sum behind the others, where the last one could not grow
     pub adds_begun : (last.name ≡ g.host → PassTogether last (sum_of g)) → SumsAlso g (rest ++ last ∷ []) (rest ++ last ∷ [] ++ sum_of g ∷ [])

@@ -1,6 +1,7 @@
 -- What becomes of the world of a project that was checked.
-use Rattle.std.proofs.Common.{◌≡◌, Option, Some, None, Result, Ok, Err, subst, sym}
-use Rattle.std.specs.Prelude.{[], IfOk, IfSome}
+use Rattle.std.proofs.Common.{◌≡◌, Option, Some, None, Result, Ok, Err, refl, subst, sym}
+use Rattle.std.specs.Prelude.{[], IfOk, IfSome, MatchResult}
+use Rattle.std.specs.Result.{result_ok}
 use Rattle.sqlite_disk.specs.Memory.{memory_bytes}
 use Rattle.sqlite_disk.specs.declared.Disk.{Ghosts}
 use Rattle.sqlite_disk.specs.declared.Files.{Files}
@@ -8,21 +9,29 @@ use Rattle.sqlite_disk.specs.declared.memory.Memory.{Memory}
 use Rattle.sqlite_store.specs.declared.store.FileStore.{FileStore}
 use Rattle.sqlite.specs.Files.{over_files}
 use Rattle.sqlite.specs.Held.{Held}
+use Rattle.sqlite.specs.declared.error.Error.{Error}
 use Rattle.wu_cli.specs.declared.trouble.Trouble.{Trouble}
 use Rattle.wu_refill.specs.Refilling.{MayBeRefilled}
 use Rattle.wu_core.specs.World.{World}
-use Rattle.wu_process.specs.Backups.{ClosesFolded, IsFilled, IsFilledInto, IsFilledWith, IsRefillOf}
+use Rattle.wu_process.specs.Backups.{ClosesFiles, ClosesFolded, GoesWith, IsFilled, IsFilledInto, IsFilledWith, IsRefillOf}
 use Rattle.wu_process.specs.Checks.{IsOpenedIn}
-use Rattle.wu_process.specs.Closing.{IsClosedInto}
 use Rattle.wu_process.specs.Copies.{memory_disk}
 use Rattle.wu_process.specs.declared.backup.Checked.{Checked}
 use Rattle.wu_process.specs.declared.backup.Folded.{Folded}
 
--- a world that may be refilled still may after the close
-pub closed_may : {D : Type 0} {g : Ghosts D} (conn : Held (FileStore D g)) (checked : Checked) (done : Result (Folded D) Trouble) → ClosesFolded conn checked done → IfSome checked.world MayBeRefilled
-    → IfOk done (λ it. IfSome it.checked.world MayBeRefilled)
-closed_may conn checked (Ok it) closes may = subst (λ (c : Checked). IfSome c.world MayBeRefilled) (sym closes.0) may
-closed_may conn checked (Err told) closes may = tt
+-- what a check found goes with the files of a close after it
+pub folded_closes : {D : Type 0} {g : Ghosts D} (conn : Held (FileStore D g)) (checked : Result Checked Trouble) (closed : Result (Files D) Error) → ClosesFiles conn closed
+    → (done : Result (Folded D) Trouble) → MatchResult checked (λ it. GoesWith it closed done) (λ told. done ≡ Err told) → MatchResult checked (λ it. ClosesFolded conn it done) (λ told. done ≡ Err told)
+folded_closes conn (Ok it) (Ok files) closes done goes = subst (ClosesFolded conn it) (sym goes) (refl, closes)
+folded_closes conn (Ok it) (Err error) closes done goes = subst (ClosesFolded conn it) (sym goes) (error, closes.0, refl, closes.1)
+folded_closes conn (Err told) closed closes done same = same
+
+-- a world that may be refilled still may with them
+pub folded_may : {D : Type 0} (checked : Result Checked Trouble) (closed : Result (Files D) Error) (done : Result (Folded D) Trouble) → MatchResult checked (λ it. GoesWith it closed done) (λ told. done ≡ Err told)
+    → IfOk checked (λ it. IfSome it.world MayBeRefilled) → IfOk done (λ it. IfSome it.checked.world MayBeRefilled)
+folded_may (Ok it) (Ok files) done goes may = subst (λ r. IfOk r (λ it. IfSome it.checked.world MayBeRefilled)) (sym goes) may
+folded_may (Ok it) (Err error) done goes may = subst (λ r. IfOk r (λ it. IfSome it.checked.world MayBeRefilled)) (sym goes) tt
+folded_may (Err told) closed done same may = subst (λ r. IfOk r (λ it. IfSome it.checked.world MayBeRefilled)) (sym same) tt
 
 -- of new files that were filled
 pub filled_with : (world : World) (empty : Files Memory) (conn : Held (FileStore Memory memory_disk)) → (blank : (memory_bytes empty.log ≡ []) × (memory_bytes empty.db ≡ [])) → IsOpenedIn empty conn
@@ -35,6 +44,6 @@ refill_of folded world is None filled = tt
 refill_of folded world is (Some files) filled = (world, is, filled)
 
 -- of a database that was filled
-pub filled_into : {D : Type 0} {g : Ghosts D} (conn again : Held (FileStore D g)) (world : World) → IsFilled over_files conn world again → (files : Option (Files D)) → IfSome files (IsClosedInto again) → IfSome files (IsFilledInto conn world)
-filled_into conn again world fills None closed = tt
-filled_into conn again world fills (Some files) closed = record { again = again; fills = fills; closed = closed }
+pub filled_into : {D : Type 0} {g : Ghosts D} (conn again : Held (FileStore D g)) (world : World) → IsFilled over_files conn world again → (closed : Result (Files D) Error) → ClosesFiles again closed → IfSome (result_ok closed) (IsFilledInto conn world)
+filled_into conn again world fills (Ok files) closes = record { again = again; fills = fills; closed = closes }
+filled_into conn again world fills (Err error) closes = tt

@@ -52,11 +52,21 @@ pub record ChecksSound {S : Type 0} (g : StoreGhosts S) (old new : Held S) (done
   pub checks : CountsSound g old mid counts
   pub loads : MatchResult counts (λ its. LoadsWorld g mid new its done) (λ told. done ≡ Err told)
 
+-- What was found of a sound project goes with its files. A failed close is reported as out of memory or a failed copy.
+abbrev pub GoesWith : {D : Type 0} → Checked → Result (Files D) Error → Result (Folded D) Trouble → Type 0
+GoesWith checked (Ok its) done = done ≡ Ok (record { files = its; checked = checked })
+GoesWith checked (Err error) done = done ≡ Err (trouble.Unchecked (reason_of_copy error))
+
 -- In an open database with none of a project's tables, a project with this world was made and committed.
 abbrev pub IsFilled : {S : Type 0} → StoreGhosts S → Held S → World → Held S → Type 0
 IsFilled g old world new = Commits {T = Unit {0}} {E = Fault} g old new (Ok (tt {0})) (MakesFilled world)
 
 module _ {D : Type 0} {g : Ghosts D} where
+  -- The database was closed into these files; or its close failed, with this error.
+  abbrev pub ClosesFiles : Held (FileStore D g) → Result (Files D) Error → Type 0
+  ClosesFiles conn (Ok files) = IsClosedInto conn files
+  ClosesFiles conn (Err error) = (last : FileStore D g) × IsLeftUnclosed conn error last
+
   -- A sound project was closed into these files; or its close failed, which is reported as out of memory or a failed
   -- copy.
   abbrev pub ClosesFolded : Held (FileStore D g) → Checked → Result (Folded D) Trouble → Type 0

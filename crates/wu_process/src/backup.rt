@@ -1,8 +1,7 @@
 //! A backup of a database: its files are copied into memory, the copy is checked and closed, and becomes a new file.
 
-ghost use Rattle.std.specs.Prelude.{◌≡◌, false, IfErr, IfOk, IfSome, IsTrue};
-ghost use Rattle.wu_process.specs.Backups.{BecomesFile, ChecksSound, ClosesFolded, Folds, FoldsFiles, IsFilled, IsFilledInto, IsFilledWith, IsRefillOf, MakesBackup, MakesFile};
-ghost use Rattle.wu_process.specs.Closing.{IsClosedInto};
+ghost use Rattle.std.specs.Prelude.{◌≡◌, false, Err, IfErr, IfOk, IfSome, IsTrue, MatchResult};
+ghost use Rattle.wu_process.specs.Backups.{BecomesFile, ChecksSound, ClosesFiles, Folds, FoldsFiles, GoesWith, IsFilled, IsFilledInto, IsFilledWith, IsRefillOf, MakesBackup, MakesFile};
 ghost use Rattle.wu_refill.specs.Loading.{FindsAlone};
 ghost use Rattle.wu_refill.specs.Refilling.{MayBeRefilled};
 ghost use Rattle.wu_schema.specs.Asking.{Asks};
@@ -12,7 +11,7 @@ use crate::copy::copy_files;
 use crate::header::has_many_free_pages;
 use crate::new_file::{MakeFile, refuse_path};
 use crate::opening::{open_copy, options};
-use sqlite::{Alter, Connection, FileStore, Files, Options};
+use sqlite::{Alter, Connection, Error, FileStore, Files, Options};
 use sqlite_disk::{Disk, Memory};
 use std::alloc::Global;
 use wu_audit::Loaded;
@@ -68,20 +67,32 @@ fn check_sound<S: Alter>(
     Ok(Checked { counts, world })
 }
 
-/// Closes the database of a sound project.
-fn close_folded<D: Disk + Drop>(
-    conn: Connection<FileStore<D>>,
-    checked: Checked,
-) -> Result<Folded<D>, Trouble>
-    ensures { ClosesFolded conn checked result }
+/// Closes a database, and returns its files.
+fn close<D: Disk + Drop>(conn: Connection<FileStore<D>>) -> Result<Files<D>, Error>
+    ensures { ClosesFiles conn result }
 {
     match conn.close_files() {
-        Ok(files) => Ok(Folded { files, checked }),
-        Err((error, _store)) => Err(Trouble::Unchecked(Reason::of_copy(&error))),
+        Ok(files) => Ok(files),
+        Err((error, _store)) => Err(error),
     }
 }
 
-/// Checks an open database, and closes it.
+/// Returns what a check found, with the files of the database, which was closed after it. A trouble of the check comes
+/// before that of the close.
+fn into_folded<D: Disk + Drop>(
+    checked: Result<Checked, Trouble>,
+    closed: Result<Files<D>, Error>,
+) -> Result<Folded<D>, Trouble>
+    ensures { MatchResult checked (λ it. GoesWith it closed result) (λ told. result ≡ Err told) }
+{
+    let checked = checked?;
+    match closed {
+        Ok(files) => Ok(Folded { files, checked }),
+        Err(error) => Err(Trouble::Unchecked(Reason::of_copy(&error))),
+    }
+}
+
+/// Checks an open database, and closes it, whatever the check found.
 fn check_and_close<D: Disk + Drop>(
     alloc: Global,
     conn: Connection<FileStore<D>>,
@@ -91,8 +102,8 @@ fn check_and_close<D: Disk + Drop>(
     ensures may { IfOk result (λ it. IfSome it.checked.world MayBeRefilled) }
 {
     let mut conn = conn;
-    let checked = check_sound(alloc, &mut conn, wants_world)?;
-    close_folded(conn, checked)
+    let checked = check_sound(alloc, &mut conn, wants_world);
+    into_folded(checked, close(conn))
 }
 
 /// Opens the database in two files, checks it, and closes it. If it cannot be opened, the trouble is why.
@@ -132,16 +143,6 @@ fn fill<S: Alter + Drop>(
     }
 }
 
-/// Closes a database. Where that fails, nothing is returned.
-fn close<D: Disk + Drop>(conn: Connection<FileStore<D>>) -> Option<Files<D>>
-    ensures { IfSome result (IsClosedInto conn) }
-{
-    match conn.close_files() {
-        Ok(files) => Some(files),
-        Err((_error, _store)) => None,
-    }
-}
-
 /// Makes a project with a world in an open database, and closes it. Where that fails, nothing is returned.
 fn fill_and_close<D: Disk + Drop>(
     alloc: Global,
@@ -153,7 +154,7 @@ fn fill_and_close<D: Disk + Drop>(
     ensures { IfSome result (IsFilledInto conn world.now) }
 {
     match fill(alloc, conn, world) {
-        Some(conn) => close(conn),
+        Some(conn) => close(conn).ok(),
         None => None,
     }
 }

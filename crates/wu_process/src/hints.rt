@@ -68,6 +68,16 @@ fn why_refused(rt: &HostRuntime, path: &str) -> Reason {
     }
 }
 
+/// Returns whether the folder of a path is there.
+fn has_folder(rt: &HostRuntime, path: &str) -> bool {
+    match path.rsplit_once('/') {
+        Some((folder, _)) if !folder.is_empty() => {
+            fs::metadata(rt, folder).is_ok_and(|found| found.is_dir())
+        }
+        _ => true,
+    }
+}
+
 /// Returns why the database at the path cannot be opened, where this is left of it; `None` if a check, which opens a copy
 /// of it, names the cause.
 fn why_unopened<D: Disk>(
@@ -75,8 +85,11 @@ fn why_unopened<D: Disk>(
     path: &str,
     left: &Option<LeftDatabase<D>>,
 ) -> Option<Reason> {
-    if let Some(reason) = why_barred(rt, path) {
-        return Some(reason);
+    match why_barred(rt, path) {
+        None => {}
+        // a missing file is made, so its folder may not be written
+        Some(Reason::NoFile) if has_folder(rt, path) => return Some(Reason::Refused),
+        barred => return barred,
     }
     let Some(LeftDatabase::Unopened(error, files)) = left else {
         return None;

@@ -1,9 +1,8 @@
 -- From what a run found to what it left.
-use Rattle.std.proofs.Common.{◌≡◌, ◌⊎◌, ℕ, ◌+◌, true, false, Bool, List, [], ◌∷◌, ◌++◌, length, map, take, None, Option, Some, Result, Ok, Err, inl, inr, refl, sym, ap, subst, ◌∙◌, arith, IsTrue}
+use Rattle.std.proofs.Common.{◌≡◌, ◌⊎◌, ℕ, ◌+◌, true, false, Bool, List, [], length, None, Option, Some, Result, Ok, Err, inl, inr, refl, sym, ap, subst, ◌∙◌, arith, IsTrue}
 use Rattle.std.proofs.Math.Logic.{∥∥₁_map}
-use Rattle.std.proofs.lemmas.List.{map-append, take_more}
-use Rattle.std.proofs.lemmas.Option.{get_or_from_slice_get, slice_get_within}
-use Rattle.std.specs.Prelude.{IfErr, OnOk, slice_get}
+use Rattle.std.proofs.lemmas.Option.{slice_get_within}
+use Rattle.std.specs.Prelude.{IfErr, OnOk}
 use Rattle.sqlite_disk.specs.declared.Disk.{Ghosts}
 use Rattle.sqlite_disk.specs.declared.Files.{Files}
 use Rattle.sqlite_wal.proofs.LogLemmas.{SeenMayStay}
@@ -25,10 +24,7 @@ use Rattle.sqlite.specs.State.{HasCleanDisk}
 use Rattle.sqlite.specs.Tree.{Trees}
 use Rattle.wu_core.specs.World.{World}
 use Rattle.wu_core.specs.declared.fault.Fault.{Fault}
-use Rattle.wu_drive.proofs.DrivingLemmas.{fold_more}
 use Rattle.wu_drive.specs.Driving.{Drives, world_after}
-use Rattle.wu_machine.specs.Commands.{request_of}
-use Rattle.wu_machine.specs.Machine.{fold_steps, step}
 use Rattle.wu_machine.specs.declared.command.Command.{Command}
 use Rattle.wu_machine.specs.Sound.{IsProject}
 use Rattle.wu_machine.specs.declared.command.Answer.{Answer}
@@ -72,6 +68,7 @@ use Rattle.wu_process.specs.Running.{ExportsIfDone, TellsTrouble}
 use Rattle.wu_process.specs.declared.End.{End}
 use Rattle.wu_process.specs.declared.database.LeftDatabase.TheVariants as left
 use Rattle.wu_process_laws.specs.Runs.{done_by, done_by_unclosed, HoldAfter, HoldAfterOneMore, Holds, LeavesAsItWas, LeavesDone, LeavesItsWork, LeavesItsWorkUnclosed, OfEachImage, ImageRefines, TellsDone, TellsText}
+use Rattle.wu_lives.proofs.ReopeningLemmas.{next_world}
 
 -- ---- statuses
 
@@ -239,12 +236,6 @@ module _ {D : Type 0} {g : Ghosts D} (stays : SeenMayStay g) (conn : Held (FileS
   begins_from world (inr (blank, same)) = inr (blank_vacant conn opened image found blank, same)
 
 -- ---- what it leaves
-
-next_world : (world : World) (commands : List Command) (i : ℕ) (command : Command) → slice_get commands i ≡ Some command
-    → world_after world commands (i + 1) ≡ step (world_after world commands i) (request_of command)
-next_world world commands i command there =
-    ap (λ cs. fold_steps world (map request_of cs)) (take_more commands i command (slice_get_within commands i command there) ∙ ap (λ c. take i commands ++ c ∷ []) (get_or_from_slice_get commands i command command there))
-    ∙ ap (λ rs. fold_steps world rs) (map-append request_of (take i commands) (command ∷ [])) ∙ fold_more world (map request_of (take i commands)) (request_of command)
 
 -- each image that a stop may leave of the files holds tables that it may leave of the connection
 module _ {D : Type 0} {g : Ghosts D} (again : Held (FileStore D g)) (files : Files D)

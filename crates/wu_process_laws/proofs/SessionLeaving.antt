@@ -1,8 +1,8 @@
 -- From the lines that a session answered to what it left.
-use Rattle.std.proofs.Common.{◌≡◌, ◌⊎◌, ◌∙◌, inl, inr, ℕ, Bool, false, List, [], ◌∷◌, ◌++◌, length, take, None, Option, Some, Result, Ok, Err, refl, sym, ap, subst, arith, append_assoc, length-append, drop, ◌+◌, map}
+use Rattle.std.proofs.Common.{◌≡◌, ◌⊎◌, ◌∙◌, inl, inr, ℕ, Bool, false, List, [], ◌∷◌, ◌++◌, length, take, None, Option, Some, Result, Ok, Err, refl, sym, ap, subst, arith, append_assoc, length-append, drop, ◌+◌}
 use Rattle.std.proofs.Math.Logic.{∥∥₁_map}
 use Rattle.std.proofs.Math.Seq.{take-append-add}
-use Rattle.std.proofs.lemmas.List.{take-append-drop, length-take-le, map-append}
+use Rattle.std.proofs.lemmas.List.{take-append-drop, length-take-le}
 use Rattle.std.specs.Prelude.{IfErr}
 use Rattle.sqlite_disk.specs.declared.Disk.{Ghosts as DiskGhosts}
 use Rattle.sqlite_disk.specs.declared.Files.{Files}
@@ -27,9 +27,6 @@ use Rattle.wu_drive.specs.Driving.{AnswerAll, Drives, world_after}
 use Rattle.wu_machine.specs.Sound.{IsProject}
 use Rattle.wu_machine.specs.declared.command.Answer.{Answer}
 use Rattle.wu_machine.specs.declared.command.Command.{Command}
-use Rattle.wu_machine.specs.Commands.{request_of}
-use Rattle.wu_machine.specs.Machine.{fold_steps, step}
-use Rattle.wu_machine.specs.Requests.{Request}
 use Rattle.wu_passes.specs.Projects.{has_ended, IsOver, is_new, IsSessionOpen, state_of}
 use Rattle.wu_passes.specs.Standing.{FaultsOnlyGrow}
 use Rattle.wu_passes.specs.declared.project.Project.{Project}
@@ -46,6 +43,7 @@ use Rattle.wu_cli.specs.Sessions.{AnswersEach, AnswersHeard, DoesAsked, DoesHear
 use Rattle.wu_cli.specs.Troubles.{trouble_status}
 use Rattle.wu_cli.specs.declared.line_trouble.LineTrouble.{LineTrouble}
 use Rattle.wu_cli.specs.declared.trouble.Trouble.{Trouble}
+use Rattle.wu_cli.proofs.ActionLemmas.{world_of, world_both, answer_both}
 use Rattle.wu_process.specs.Asking.{may_hold}
 use Rattle.wu_process.specs.Backups.{may_become}
 use Rattle.wu_process.specs.Exports.{MakesExport}
@@ -61,22 +59,6 @@ use Rattle.wu_process_laws.specs.Runs.{HoldAfter, ImageRefines, LeavesAsItWas, O
 use Rattle.wu_process_laws.specs.SessionRuns.{AskedDid, AsksOfHeard, GoesOnFrom, InputDid, LeavesItsLines, LeavesSession, LineDid, LinesDid, BeginsWhereOneEnded, GoesFromFirst, GoesOnAfter, LeavesItsLinesUnclosed, EndDid}
 
 -- ---- the machine over two lists
-
-abbrev world_of : World → List Command → World
-world_of world commands = fold_steps world (map request_of commands)
-
-fold_both : (world : World) (xs ys : List Request) → fold_steps world (xs ++ ys) ≡ fold_steps (fold_steps world xs) ys
-fold_both world [] ys = refl
-fold_both world (x ∷ xs) ys = fold_both (step world x) xs ys
-
-world_both : (world : World) (xs ys : List Command) → world_of world (xs ++ ys) ≡ world_of (world_of world xs) ys
-world_both world xs ys = ap (λ rs. fold_steps world rs) (map-append request_of xs ys) ∙ fold_both world (map request_of xs) (map request_of ys)
-
-answer_both : (world : World) (xs ys : List Command) (first more : List Answer) → AnswerAll world xs first → AnswerAll (world_of world xs) ys more → AnswerAll world (xs ++ ys) (first ++ more)
-answer_both world [] ys [] more one two = two
-answer_both world [] ys (a ∷ first) more one two = absurd one
-answer_both world (x ∷ xs) ys [] more one two = absurd one
-answer_both world (x ∷ xs) ys (a ∷ first) more one two = (one.0, answer_both (step world (request_of x)) xs ys first more one.1 two)
 
 -- what holds after so many of the second list, over the world after the first, holds of both
 module _ (world : World) (first all : List Command) (image : Image) where

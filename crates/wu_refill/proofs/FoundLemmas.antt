@@ -1,10 +1,9 @@
 -- The world that is found of a sound project is sound.
-use Rattle.std.proofs.Common.{◌≡◌, ℕ, ◌+◌, List, [], ◌∷◌, length, map, Option, Result, Ok, Err, IfOk, IfSome, IsSomeAnd, None, Some, refl, sym, subst, ◌∙◌, arith}
+use Rattle.std.proofs.Common.{◌≡◌, ℕ, Option, Result, Ok, Err, IfOk, IfSome, IsSomeAnd, None, Some, refl, sym, subst, ◌∙◌, arith}
 use Rattle.std.proofs.lemmas.List.Elements.{All-from_recursion}
 use Rattle.std.proofs.lemmas.Result.{IfOk-weaker}
 use Rattle.sqlite.specs.Effect.{Database}
 use Rattle.sqlite.specs.Held.{Held, state}
-use Rattle.sqlite.specs.Order.{Row}
 use Rattle.sqlite.specs.State.{HasCleanDisk}
 use Rattle.sqlite.specs.Store.{Ghosts}
 use Rattle.wu_audit.specs.Laws.{SoundInAnyOrder}
@@ -16,7 +15,7 @@ use Rattle.wu_loader.specs.Shown.{AreArranged, AreWhole}
 use Rattle.wu_loader.specs.Worlds.{IsReadable}
 use Rattle.wu_loader.specs.declared.finding.Found.{Found}
 use Rattle.wu_loader.specs.declared.finding.Found.TheVariants as found
-use Rattle.wu_loader.proofs.StandLemmas.{stands_arranged}
+use Rattle.wu_loader.proofs.StandLemmas.{stands_arranged, all_whole}
 use Rattle.wu_machine.specs.Machine.{IsUpToDate, present_version}
 use Rattle.wu_machine.specs.Sound.{IsSound}
 use Rattle.wu_schema.specs.Calls.{OnAnswer}
@@ -38,11 +37,6 @@ readable world sound is = record {
   imports = sound.imports;
   classes = λ k d low. record { host = (sound.classed k d low).host; class = (sound.classed k d low).within };
 }
-
--- each row has all cells
-all_whole : {X : Type 0} (count : ℕ) (stored : X → Row) → ((x : X) → length (stored x) ≡ count + 1) → (xs : List X) → AreWhole count (map stored xs)
-all_whole count stored long [] = tt
-all_whole count stored long (x ∷ xs) = (long x, all_whole count stored long xs)
 
 module _ (any_order : SoundInAnyOrder) (db : Database) (world : World) (stands : Refines db world) (sound : IsSound world) (is : IsUpToDate world) where
   -- of tables that represent a sound world each world is sound

@@ -7,7 +7,8 @@ use Rattle.wu_core.specs.Classes.{with_class}
 use Rattle.wu_core.specs.World.{World, MayBeKept, empty_world}
 use Rattle.wu_core.specs.declared.workunit.HostClass.{HostClass}
 use Rattle.wu_core.specs.declared.workunit.Workunit.{Workunit}
-use Rattle.wu_core.proofs.HostLemmas.{Ascends, below, order, pairs_ascend, turned}
+use Rattle.wu_core.proofs.HostLemmas.{Ascends, order, pairs_ascend, turned}
+use Rattle.wu_core.proofs.ClassLemmas.{Before}
 use Rattle.wu_machine.specs.Machine.{IsUpToDate}
 use Rattle.wu_machine.specs.Sound.{IsSound}
 use Rattle.wu_plans.specs.Planning.{sets_class}
@@ -45,9 +46,6 @@ before_it R [] y ys up = tt
 before_it R (x ∷ xs) y ys up = (at_it (R x) xs y ys up.0, before_it R xs y ys up.1)
 
 -- ---- classes of hosts
-
-abbrev Before : HostClass → HostClass → Type 0
-Before one other = below one.host other.host
 
 -- a host behind all others comes last
 class_last : (it : HostClass) (classes : List HostClass) → AllByRecursion (λ one. Before one it) classes → with_class it.host it.class classes ≡ classes ++ it ∷ []

@@ -1,5 +1,5 @@
 -- Loops that change each element of a list in place.
-use Rattle.std.proofs.Common.{◌≡◌, ℕ, ◌+◌, ◌<◌, ◌≤◌, List, ◌++◌, map, length, take, drop, get_or, set, ap, ◌∙◌, arith}
+use Rattle.std.proofs.Common.{◌≡◌, ℕ, ◌+◌, ◌<◌, List, ◌++◌, map, length, take, drop, get_or, set, arith}
 use Rattle.std.proofs.lemmas.List.{take_all, drop_all, append-nil, length-map, length-append, length-drop, length-take, get_or_default}
 use Rattle.std.proofs.lemmas.List.Edits.{map_over_more}
 use Rattle.wu_core.specs.declared.workunit.Instance.{Instance}
@@ -8,15 +8,6 @@ use Rattle.wu_core.specs.Workunit.{overwritten}
 -- what is written in place has the list's own length, so it is all of it
 pub overwritten-all : (old written : List Instance) → length written ≡ length old → overwritten old written ≡ written
 overwritten-all old written e = rw (drop_all (length written) old (omega arith), append-nil written) (take_all (length old) written (omega arith))
-
--- the loop is through
-pub mapped_all : (f : Instance → Instance) (old written : List Instance) (n : ℕ) → length old ≤ n → written ≡ map f (take n old) ++ drop n old → written ≡ map f old
-mapped_all f old written n le e = e ∙ rw (take_all n old le, drop_all n old le) (append-nil (map f old))
-
-pub overwritten-mapped : (f : Instance → Instance) (old written : List Instance) (n : ℕ) → length old ≤ n → written ≡ map f (take n old) ++ drop n old → overwritten old written ≡ map f old
-overwritten-mapped f old written n le e =
-    let same = mapped_all f old written n le e in
-    overwritten-all old written (ap length same ∙ length-map old f) ∙ same
 
 -- one more element is changed
 pub mapped_more : (f : Instance → Instance) (old now : List Instance) (n : ℕ) (d y : Instance) → n < length old → now ≡ map f (take n old) ++ drop n old → y ≡ f (get_or now n d) → set now n y ≡ map f (take (n + 1) old) ++ drop (n + 1) old

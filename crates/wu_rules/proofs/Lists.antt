@@ -1,11 +1,11 @@
 -- Counts and tests over a list whose elements were changed.
-use Rattle.std.proofs.Common.{◌≡◌, ℕ, suc, ◌+◌, ◌<◌, ◌≤◌, Bool, true, false, cond, ◌&&◌, List, [], ◌∷◌, ◌++◌, map, length, filter, take, drop, get_or, set, refl, sym, ap, ◌∙◌, add-zero, zero-add, Option, Some, None, arith}
-use Rattle.std.proofs.lemmas.List.{length-map, length-take-le, drop_more, get_or_at, set_at, take_more, map-append, append_assoc, take_all, drop_all, append-nil}
+use Rattle.std.proofs.Common.{◌≡◌, ℕ, suc, ◌+◌, ◌<◌, Bool, true, false, cond, ◌&&◌, List, [], ◌∷◌, ◌++◌, map, length, filter, take, drop, get_or, set, refl, sym, ap, ◌∙◌, add-zero, zero-add, Option, Some, None, arith}
+use Rattle.std.proofs.lemmas.List.{length-map, length-take-le, drop_more, get_or_at, set_at, take_more, map-append, append_assoc}
 use Rattle.std.specs.Option.{option_to_list}
 use Rattle.std.proofs.lemmas.List.Elements.{filter_map-append}
 use Rattle.std.proofs.lemmas.List.FromFn.{length-enumerate_from, get_or-enumerate_from}
 use Rattle.std.proofs.lemmas.List.Folds.{list_any-append, list_any_at}
-use Rattle.std.specs.List.{list_any, list_all, filter_map, cons_option, enumerate_from}
+use Rattle.std.specs.List.{list_any, filter_map, cons_option, enumerate_from}
 
 pub count_step : {A B : Type 0} (b c : Bool) (x : A) (y : B) (xs : List A) (ys : List B) → b ≡ c → length xs ≡ length ys → length (cond b (x ∷ xs) xs) ≡ length (cond c (y ∷ ys) ys)
 count_step true true x y xs ys e l = ap (λ n. suc n) l
@@ -21,10 +21,6 @@ count-map p q f same (x ∷ xs) = count_step (p (f x)) (q x) (f x) x (filter p (
 pub any-map : {A B : Type 0} (p : B → Bool) (q : A → Bool) (f : A → B) → ((x : A) → p (f x) ≡ q x) → (xs : List A) → list_any p (map f xs) ≡ list_any q xs
 any-map p q f same [] = refl
 any-map p q f same (x ∷ xs) = let e = same x in let r = any-map p q f same xs in cc
-
-pub all-map : {A B : Type 0} (p : B → Bool) (q : A → Bool) (f : A → B) → ((x : A) → p (f x) ≡ q x) → (xs : List A) → list_all p (map f xs) ≡ list_all q xs
-all-map p q f same [] = refl
-all-map p q f same (x ∷ xs) = let e = same x in let r = all-map p q f same xs in cc
 
 -- each element with its place
 pub enumerate_from-append : {A : Type 0} (s : ℕ) (xs ys : List A) → enumerate_from s (xs ++ ys) ≡ enumerate_from s xs ++ enumerate_from (s + length xs) ys
@@ -57,10 +53,6 @@ placed_more f old now n d y lt e made =
     let right : map_placed f (take (n + 1) old) ++ drop (n + 1) old ≡ front ++ f n (get_or old n d) ∷ drop (n + 1) old =
     ap (λ zs. zs ++ drop (n + 1) old) more ∙ append_assoc front (f n (get_or old n d) ∷ []) (drop (n + 1) old) in
     left ∙ (ap (λ z. front ++ z ∷ drop (n + 1) old) (made ∙ ap (λ z. f n z) here) ∙ sym right)
-
--- the loop is through
-pub placed_all : {A : Type 0} (f : ℕ → A → A) (old now : List A) (n : ℕ) → length old ≤ n → now ≡ map_placed f (take n old) ++ drop n old → now ≡ map_placed f old
-placed_all f old now n le e = e ∙ rw (take_all n old le, drop_all n old le) (append-nil (map_placed f old))
 
 -- a change that changes no element changes no list
 pub map-same : {A : Type 0} (f : A → A) → ((x : A) → f x ≡ x) → (xs : List A) → map f xs ≡ xs

@@ -20,18 +20,6 @@ pub refused_not_judged : (undecided : Bool) (i : Instance) → is_judged_where u
 refused_not_judged true i = and_false (is_over_state i.server_state && false)
 refused_not_judged false i = and_false (is_over_state i.server_state && false)
 
--- what is judged still has an output
-pub left_not_empty : (undecided : Bool) (i : Instance) → is_empty i.output ≡ true → is_judged_where undecided (refused_where undecided i) ≡ false
-left_not_empty undecided i empty = by_case (is_judged_where undecided i) refl
-  where
-    by_case : (b : Bool) → b ≡ is_judged_where undecided i → is_judged_where undecided (refused_where undecided i) ≡ false
-    by_case true e =
-        let no_result : is_no_result undecided i ≡ true = ap (λ judged. judged && is_empty i.output) (sym e) ∙ empty in
-        ap (λ b. is_judged_where undecided (cond b (refused i) i)) no_result ∙ refused_not_judged undecided i
-    by_case false e =
-        let result : is_no_result undecided i ≡ false = ap (λ judged. judged && is_empty i.output) (sym e) in
-        ap (λ b. is_judged_where undecided (cond b (refused i) i)) result ∙ sym e
-
 -- refused twice is refused once
 pub refused_twice : (undecided : Bool) (i : Instance) → refused_where undecided (refused_where undecided i) ≡ refused_where undecided i
 refused_twice undecided i = by_case (is_no_result undecided i) refl

@@ -7,7 +7,7 @@ pub mod Cancels
 mod Choosing
 mod Deciding
 mod Ending
-mod Following
+pub mod Following
 mod Granted
 mod GivingUp
 mod Granting

@@ -3,7 +3,7 @@ use Rattle.std.proofs.Common.{◌≡◌, ◌≢◌, ℕ, zero, suc, ◌+◌, ◌
 use Rattle.std.proofs.lemmas.Bool.Decides.{nat_tests}
 use Rattle.std.proofs.lemmas.List.Elements.{All-from_recursion, All-weaker, recursion_from_All}
 use Rattle.std.proofs.lemmas.Option.{get_or_from_slice_get, slice_get_within}
-use Rattle.std.proofs.lemmas.Slice.Eq.{bytes_eq-Decides}
+use Rattle.std.proofs.lemmas.Cmp.{nat_list_eq_equiv}
 use Rattle.std.specs.List.{All, AllByRecursion, list_any}
 use Rattle.std.specs.Option.{option_map_or}
 use Rattle.wu_core.specs.Formed.{IsInstance, IsWorkunit}
@@ -269,9 +269,6 @@ or_true : (a b : Bool) → b ≡ true → (a || b) ≡ true
 or_true a b e = grind arith
 
 -- bytes are equal to themselves
-same_bytes : (xs : List ℕ) → bytes_eq xs xs ≡ true
-same_bytes xs = (bytes_eq-Decides xs xs).1 refl
-
 -- what is made VALID by this output
 abbrev is_made : Workunit → List ℕ → Instance → Bool
 is_made w output i = is_judged w i && bytes_eq i.output output
@@ -338,7 +335,7 @@ chosen_valid : (w : Workunit) (n : ℕ) (ys : List Instance) → w.canonical ≡
 chosen_valid w n ys none become choice =
     let output = output_at w.instances n in
     let own : output ≡ choice.chosen.output = ap (λ o. option_map_or (λ (i : Instance). i.output) o []) choice.stands in
-    let equal : bytes_eq choice.chosen.output output ≡ true = ap (λ bytes. bytes_eq choice.chosen.output bytes) own ∙ same_bytes choice.chosen.output in
+    let equal : bytes_eq choice.chosen.output output ≡ true = ap (λ bytes. bytes_eq choice.chosen.output bytes) own ∙ nat_list_eq_equiv.refl choice.chosen.output in
     let one : is_made w output choice.chosen ≡ true = ap (λ o. is_judged_where (is_none o) choice.chosen && bytes_eq choice.chosen.output output) none
     ∙ (ap (λ b. b && bytes_eq choice.chosen.output output) choice.is_viable ∙ equal) in
     let found : option_map_or (is_made w output) (slice_get w.instances n) false ≡ true =

@@ -17,7 +17,7 @@ use Rattle.wu_rules_laws.specs.Consistent.{RulesKeepVerdicts}
 use Rattle.wu_rules.specs.Consistent.{IsConsistent, IsPossible, KeepsVerdicts}
 use Rattle.wu_rules_laws.proofs.Becoming.{all_become-set, becomes_reported, final_at, none_made}
 use Rattle.wu_rules_laws.proofs.Changed.{cond_has}
-use Rattle.wu_rules_laws.proofs.Following.{Follows, follows_cancelled, kept_then, quietly_emptied, quietly_transitioned, verdicts_kept}
+use Rattle.wu_rules_laws.proofs.Following.{Follows, follows_cancelled, quietly_emptied, quietly_transitioned, verdicts_kept}
 use Rattle.wu_rules_laws.proofs.Hosted.{at_set}
 use Rattle.wu_rules_laws.proofs.Judged.{finals_stay}
 use Rattle.wu_rules_laws.proofs.Kept.{reported_has}
@@ -26,10 +26,6 @@ use Rattle.wu_rules_laws.proofs.Rewriting.{holds_at, was_no_success, was_not_ref
 -- no change
 pub verdicts_unchanged : (w : Workunit) → KeepsVerdicts w w
 verdicts_unchanged w = verdicts_kept w w (λ n u e final. e)
-
--- one change after another
-pub verdicts_then : (w v u : Workunit) → KeepsVerdicts w v → KeepsVerdicts v u → KeepsVerdicts w u
-verdicts_then = kept_then
 
 -- where nothing is made VALID
 verdicts_follow : (w v : Workunit) → Follows w.instances v.instances → KeepsVerdicts w v

@@ -14,7 +14,7 @@ use Rattle.sqlite.specs.Clock.{timed}
 use Rattle.sqlite_disk.specs.Disk.{MoreFaults}
 use Rattle.sqlite_trees.specs.declared.error.StoreError.TheVariants as kind
 use Rattle.wu_schema.specs.Asking.{Asks, IsAsBefore, IsSelect, ServesUnlessFailed}
-use Rattle.wu_schema.specs.Calls.{HasBroken}
+use Rattle.wu_schema.specs.Calls.{BreaksBetween, HasBroken}
 use Rattle.wu_schema.specs.Faults.{IsFailure, IsStoreFault}
 use Rattle.wu_schema.proofs.CallLemmas.{back_none, back_unchanged}
 use Rattle.wu_schema.proofs.ReadLemmas.{failed_back, reads_survive, shown_unchanged, shows_none}
@@ -42,7 +42,7 @@ back_then a b c one two = record {
   committed = λ is_open. two.committed is_open ∙ one.committed (two.was_open is_open);
 }
 
-unchanged_then : (a b c : State) → IsUnchanged a b → IsUnchanged b c → IsUnchanged a c
+pub unchanged_then : (a b c : State) → IsUnchanged a b → IsUnchanged b c → IsUnchanged a c
 unchanged_then a b c one two = (
   record {
     was_open = one.0.was_open;
@@ -152,28 +152,25 @@ read_other limit (command.Rows values width names) db params e h = told_other e 
 read_other limit _ db params e h = told_other e _ h (λ is. absurd cc)
 
 module _ (old new : State) (e : Error) where
-  abbrev Broke : Type 0
-  Broke = MoreFaults old.faults new.faults ⊎ (old.is_open ≡ false)
-
   no_statement_other : (sql : List ℕ) (params : Row) → IsNoStatement old sql params e → fault_of e ≢ Broken
   no_statement_other sql params (inl input) = told_other e _ input.2 (input_other input.0)
   no_statement_other sql params (inr (c, read, inl many)) = told_other e _ many.1 (λ is. absurd cc)
   no_statement_other sql params (inr (c, read, inr (inl given))) = told_other e _ given.1 (λ is. absurd cc)
   no_statement_other sql params (inr (c, read, inr (inr timed))) = told_other e _ timed.1 (λ is. absurd cc)
 
-  pub caused : {big : Type 0} → ¬ big → (cause : StoreError) → HasCause old new big cause → fault_of (store_error cause) ≡ Broken → Broke
+  pub caused : {big : Type 0} → ¬ big → (cause : StoreError) → HasCause old new big cause → fault_of (store_error cause) ≡ Broken → BreaksBetween old new
   caused never kind.OutOfMemory has is = absurd cc
   caused never kind.Broken has is = inr has
   caused never kind.Unstorable has is = absurd (never has)
   caused never _ has is = inl has
 
-  pub not_run_broke : (sql : List ℕ) (params : Row) → IsNotRun old new sql params e → fault_of e ≡ Broken → Broke
+  pub not_run_broke : (sql : List ℕ) (params : Row) → IsNotRun old new sql params e → fault_of e ≡ Broken → BreaksBetween old new
   unfolding IsNotRun
   not_run_broke sql params (inl refused) is = absurd (no_statement_other sql params refused.0 is)
   not_run_broke sql params (inr failed) is = caused (λ none. none) failed.0 failed.2 (ap fault_of (sym failed.1) ∙ is)
 
   -- a question fails so where the disk failed, or the connection was not open
-  pub query_broke : (text : List ℕ) → IsSelect text → (params : Row) → FailsToQuery text params old new e → fault_of e ≡ Broken → Broke
+  pub query_broke : (text : List ℕ) → IsSelect text → (params : Row) → FailsToQuery text params old new e → fault_of e ≡ Broken → BreaksBetween old new
   unfolding FailsToQuery
   query_broke text it params (inl h) is = not_run_broke text params h is
   query_broke text it params (inr h) is =

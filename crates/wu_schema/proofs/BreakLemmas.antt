@@ -1,6 +1,6 @@
 -- Which errors of a text that makes a table, an index or a row are the store's own: those of a disk that failed, and of
 -- a connection that was not open.
-use Rattle.wu_schema.proofs.Words.{Bool, Chosen, Command, Compiled, Database, Does, Err, Error, Executes, ExecutesIn, Ghosts, Has, HasMade, HasTable, IsDatabase, Held, HasCleanDisk, Index, Insert, Int, IsErrAnd, IsTrue, Keys, List, MatchBool, Mode, Name, None, Ok, Option, Result, Row, Schema, Some, State, Survives, Table, Term, Transaction, Trees, Values, [], ap, append-nil, arith, cases_Bool, codes, count_of, edit_of, false, fault_of, inl, inr, length, mode_of, nat_lt, negsuc, next_tree, nat_tests, no_works, pos, project_at, refl, slice_get, stamped, state, subst, suc, sym, taken_by, true, understood, value_rows, result_at, workunit_at, works, zero, ℕ, ℤ, ◌*◌, ◌++◌, ◌+◌, ◌/◌, ◌^◌, ◌∙◌, ◌∷◌, ◌≡◌, ◌<◌, ◌≢◌, ◌≤◌, ◌⊎◌}
+use Rattle.wu_schema.proofs.Words.{Chosen, Command, Compiled, Database, Does, Err, Error, Executes, ExecutesIn, Ghosts, Has, HasMade, HasTable, IsDatabase, Held, HasCleanDisk, Index, Insert, Int, IsErrAnd, IsTrue, Keys, List, Mode, Name, None, Ok, Option, Result, Row, Schema, Some, State, Survives, Table, Term, Transaction, Trees, Values, [], ap, append-nil, arith, cases_Bool, codes, count_of, edit_of, false, fault_of, inl, inr, length, mode_of, nat_lt, negsuc, next_tree, nat_tests, no_works, pos, project_at, refl, slice_get, stamped, state, subst, suc, sym, taken_by, true, understood, value_rows, result_at, workunit_at, works, zero, ℕ, ℤ, ◌*◌, ◌++◌, ◌+◌, ◌/◌, ◌^◌, ◌∙◌, ◌∷◌, ◌≡◌, ◌<◌, ◌≢◌, ◌≤◌, ◌⊎◌}
 use Rattle.sqlite.specs.Clock.{timed}
 use Rattle.sqlite.specs.declared.error.Error.TheVariants.{SqliteFailure}
 use Rattle.sqlite.specs.declared.error.ErrorCode.TheVariants.{TransactionState}
@@ -14,7 +14,6 @@ use Rattle.sqlite_schema.specs.Rules.{Refers, table_reals}
 use Rattle.sqlite_trees.specs.View.{IsStorableRow}
 use Rattle.wu_schema.proofs.InsertTexts.{Put, PutFits, project_fits, project_put, put_compiles}
 use Rattle.sqlite.specs.State.{IsMisplaced, RunsCommand, shows_rows, text_of}
-use Rattle.sqlite_disk.specs.Disk.{MoreFaults}
 use Rattle.sqlite_catalog.specs.Calls.{IsLongIndex, IsLongTable}
 use Rattle.sqlite_catalog.specs.declared.error.Refusal as alter
 use Rattle.sqlite_catalog.specs.declared.error.Refusal.TheVariants as why
@@ -32,14 +31,15 @@ use Rattle.std.proofs.lemmas.Bool.{both_ways}
 use Rattle.sqlite.specs.Steps.{FailsToCommit}
 use Rattle.wu_core.specs.declared.fault.Fault.{Fault}
 use Rattle.wu_schema.specs.Faults.{IsFailure, commit_fault_of}
-use Rattle.wu_schema.proofs.CallLemmas.{begun_part}
+use Rattle.wu_schema.proofs.CallLemmas.{begun_part, same_error}
 use Rattle.wu_schema.proofs.OneLemmas.{broken_by}
-use Rattle.wu_schema.specs.Calls.{BreaksAfter, BreaksTruly, HasBroken, IsPart, RefusesText, StatementFrame}
+use Rattle.wu_schema.specs.Calls.{BreaksAfter, BreaksBetween, BreaksTruly, HasBroken, IsPart, RefusesText, StatementFrame}
 use Rattle.wu_schema.specs.Made.{HasBareProject, IsUnindexed, MakesAll, Named, class_tables, record_tables, work_tables}
 use Rattle.sqlite_catalog.proofs.StepLemmas.{table_below}
 use Rattle.wu_schema.proofs.CreatedLemmas.{project_kept, project_row}
 use Rattle.wu_schema.proofs.MadeLemmas.{all_then}
 use Rattle.wu_schema.specs.Queue.{HasEmpty, MakesIndexes}
+use Rattle.wu_schema.proofs.QuietLemmas.{when_false}
 use Rattle.std.proofs.lemmas.List.{length-append}
 use Rattle.sqlite_rules.proofs.ListLemmas.{has_got}
 use Rattle.std.proofs.lemmas.Nat.Bits.{bit_at-zero}
@@ -57,24 +57,18 @@ misplaced_other : (s : State) (command : Command) (e : Error) → IsMisplaced s 
 misplaced_other s command e (inl began) = told_other e _ began.0 (λ is. absurd cc)
 misplaced_other s command e (inr unnamed) = told_other e _ unnamed.0 (λ is. absurd cc)
 
-error_is : {e f : Error} → ◌≡◌ {A = Result ℕ Error} (Err e) (Err f) → e ≡ f
-error_is same = cc
-
 module _ (text : List ℕ) (params : Row) (old new : State) (e : Error)
     (never : (c : Compiled) → understood old.now.schema text ≡ Ok c → (moment : ℕ) (stop : Option Error) → Does old.step_limit (mode_of old) (timed params c.formats moment) old.now (text_of text c) c.returning c.command (Err stop) → IsOther stop) where
-  abbrev Broke : Type 0
-  Broke = MoreFaults old.faults new.faults ⊎ (old.is_open ≡ false)
-
-  ran_broke : (c : Compiled) → understood old.now.schema text ≡ Ok c → (moment : ℕ) → RunsCommand old new text c (timed params c.formats moment) (Err e) → fault_of e ≡ Broken → Broke
+  ran_broke : (c : Compiled) → understood old.now.schema text ≡ Ok c → (moment : ℕ) → RunsCommand old new text c (timed params c.formats moment) (Err e) → fault_of e ≡ Broken → BreaksBetween old new
   ran_broke c known moment (inl (inl misplaced, same)) is = absurd (misplaced_other old c.command e misplaced is)
   ran_broke c known moment (inl (inr (may, refused), same)) is = absurd (never c known moment (Some e) refused is)
   ran_broke c known moment (inr failed) is = caused old new e (λ big. never c known moment None big) failed.0 failed.2 (ap fault_of (sym failed.1) ∙ is)
 
-  pub text_broke : Executes text params old new (Err e) → fault_of e ≡ Broken → Broke
+  pub text_broke : Executes text params old new (Err e) → fault_of e ≡ Broken → BreaksBetween old new
   unfolding ExecutesIn
   text_broke (inl h) is = not_run_broke old new e text params h is
   text_broke (inr (c, it, runs)) is = elim (cases_Bool (shows_rows false c)) [
-    | inl shows ↦ absurd (told_other e _ (error_is (rw shows at runs).0) (λ no. absurd cc) is)
+    | inl shows ↦ absurd (told_other e _ (same_error (rw shows at runs).0) (λ no. absurd cc) is)
     | inr ran ↦ ran_broke c it.is it.now (rw ran at runs) is
   ]
 
@@ -122,7 +116,7 @@ module _ (text name : List ℕ) (table : ℕ → Table) (d : Defines text name t
       stops h (λ s first. stops first (makes_other text db never_long) (λ then. counts_other then.0 s then.2)) (λ then. absurd (not_given then.2))
 
   -- CREATE TABLE fails so where the disk failed, or the connection was not open
-  pub create_broke : (old new : State) (e : Error) → Executes text [] old new (Err e) → fault_of e ≡ Broken → MoreFaults old.faults new.faults ⊎ (old.is_open ≡ false)
+  pub create_broke : (old new : State) (e : Error) → Executes text [] old new (Err e) → fault_of e ≡ Broken → BreaksBetween old new
   create_broke old new e = text_broke text [] old new e (λ c known moment stop does.
       let given = timed [] c.formats moment in
       let free = understood_free text name table d old.now.schema c known in
@@ -154,7 +148,7 @@ module _ (text : List ℕ) (table : Named) (named : NamedIndex) (d : DefinesAs t
       stops (rw there at h) (λ s first. index_made_other db none s first) (λ then. absurd (not_given then.2))
 
   -- CREATE INDEX fails so where the disk failed, or the connection was not open
-  pub index_broke : (old new : State) (at : ℕ) → HasTable old.now.schema table.0 at (table.1 tree) → old.now.trees (table.1 tree).tree ≡ [] → (e : Error) → Executes text [] old new (Err e) → fault_of e ≡ Broken → MoreFaults old.faults new.faults ⊎ (old.is_open ≡ false)
+  pub index_broke : (old new : State) (at : ℕ) → HasTable old.now.schema table.0 at (table.1 tree) → old.now.trees (table.1 tree).tree ≡ [] → (e : Error) → Executes text [] old new (Err e) → fault_of e ≡ Broken → BreaksBetween old new
   index_broke old new at has none e = text_broke text [] old new e (λ c known moment stop does.
       let given = timed [] c.formats moment in
       let schema = old.now.schema in
@@ -191,9 +185,6 @@ source_other limit db params terms width (Some e) (inr stopped) = told_other e _
 tested_other : (mode : Mode) (Holds : Among → Type 0) (stop : Option Error) → Tested mode Holds (Err stop) → IsOther stop
 tested_other mode Holds stop h = subst IsOther (sym h.1) (λ is. absurd cc)
 
-uncounted : (b : Bool) (P Q : Type 0) → b ≡ false → MatchBool b P Q → Q
-uncounted b P Q off h = rw off at h
-
 module _ (title : Name) (table : ℕ → Table) (q : Put) (fits : PutFits title table q) (params : Row) (tree : ℕ) (row : Row) where
   abbrev sources : List Row
   sources = value_rows params (length q.terms) (length q.terms / length q.terms) q.terms
@@ -211,7 +202,7 @@ module _ (title : Name) (table : ℕ → Table) (q : Put) (fits : PutFits title 
     written_other : (stop : Option Error) → WritesRows (record { limit = limit; keys = mode.keys; schema = db.schema; table = table tree; params = params }) db.trees (Insert at (Values q.terms (length q.terms))) (Err stop) → IsOther stop
     written_other stop h =
         stops h (λ s from. source_other limit db (stamped (table tree) params) q.terms (length q.terms) s from) (λ given.
-        stops given.2 (λ s counter. absurd (not_given (uncounted (table tree).is_counted _ _ (fits.bare tree) counter))) (λ counter.
+        stops given.2 (λ s counter. absurd (not_given (when_false (table tree).is_counted _ _ (fits.bare tree) counter))) (λ counter.
         stops counter.2 (λ s edits. edited_other db.schema mode.keys db.trees (edit_of db.trees (table tree) [] Chosen 0 sources) (no_works db.schema mode.keys 0 (table tree).tree _) small_row s
         (subst (λ r. Edited db.schema mode.keys db.trees (edit_of db.trees (table tree) [] r 0 sources) (Err s)) (chosen (table tree) _ (fits.bare tree))
         (subst (λ all. Edited db.schema mode.keys db.trees (edit_of db.trees (table tree) [] (rowids_for (table tree) (count_of counter.0)) 0 all) (Err s)) (given.1.1 ∙ ap (λ p. value_rows p (length q.terms) (length q.terms / length q.terms) q.terms) (fits.plain tree params)) edits)))
@@ -223,7 +214,7 @@ module _ (title : Name) (table : ℕ → Table) (q : Put) (fits : PutFits title 
 
   -- INSERT of one row fails so where the disk failed, or the connection was not open
   pub put_broke : (old new : State) (at : ℕ) → HasTable old.now.schema title at (table tree) → (edit_of old.now.trees (table tree) [] Chosen 0 sources).news ≡ row ∷ [] → IsStorableRow (table_reals (table tree)) row → IsUnindexed old.now.schema (table tree).tree
-      → (e : Error) → Executes q.text params old new (Err e) → fault_of e ≡ Broken → MoreFaults old.faults new.faults ⊎ (old.is_open ≡ false)
+      → (e : Error) → Executes q.text params old new (Err e) → fault_of e ≡ Broken → BreaksBetween old new
   put_broke old new at has news storable bare e = text_broke q.text params old new e (λ c known moment stop does.
       let values = Values q.terms (length q.terms) in
       let it = put_compiles old.now.schema title at table tree has q fits in

@@ -30,7 +30,7 @@ part_of g old new sql params e r ended runs survives = elim (cases_Bool old.in_t
   | inr outside ↦ subst (λ h. IsPart (state g old) (state g h)) (sym (ended outside).1) (part_none (state g old))
 ]
 
-same_error : {e f : Error} → ◌≡◌ {A = Result ℕ Error} (Err e) (Err f) → e ≡ f
+pub same_error : {e f : Error} → ◌≡◌ {A = Result ℕ Error} (Err e) (Err f) → e ≡ f
 same_error same = cc
 
 module _ {S : Type 0} (g : Ghosts S) (old new : Transaction S) (one : new.conn.ghost_name ≡ old.conn.ghost_name) (sql : List ℕ) (given : Row) (stop : Error) where

@@ -5,7 +5,7 @@ use Rattle.sqlite.specs.Clock.{timed}
 use Rattle.sqlite.specs.State.{ShowsRows}
 use Rattle.wu_schema.proofs.CallLemmas.{back_not_run, back_unchanged, err_on}
 
-same_ok : {X E : Type 0} {a b : X} → ◌≡◌ {A = Result X E} (Ok a) (Ok b) → a ≡ b
+pub same_ok : {X E : Type 0} {a b : X} → ◌≡◌ {A = Result X E} (Ok a) (Ok b) → a ≡ b
 same_ok e = cc
 
 none_shown : (p : Parsed) (r : Checked Command) (formats : List Name) (c : Compiled) → and_then (and_then (and_then r (λ k. Ok (k, None))) (λ found. Ok (formats, found))) (λ plan. Ok (with_command p plan)) ≡ Ok c → c.returning ≡ None

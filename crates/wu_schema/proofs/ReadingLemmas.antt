@@ -4,6 +4,7 @@ use Rattle.wu_core.specs.Formed.{IsInstance}
 use Rattle.wu_core.specs.Storable.{IsStoredInstance, AreVerdicts, IsClass, IsDeadline, IsMoment, IsHost, IsInput, IsName, IsPlace, IsStoredWorkunit, IsOutput, IsStoredArchived}
 use Rattle.wu_core.specs.declared.mask.ErrorMask.{ErrorMask}
 use Rattle.wu_core.specs.declared.workunit.Archived.{Archived}
+use Rattle.wu_core.specs.declared.workunit.HostClass.{HostClass}
 use Rattle.wu_schema.specs.Stored.{archived_cells, class_cells}
 use Rattle.std.specs.Option.{ok_or}
 use Rattle.std.specs.Prelude.{MatchOption}
@@ -70,10 +71,17 @@ place_restores P p v (Err f) ok err fits = unread number_or_null IsPlace v f (el
     readable None is same = inl same
     readable (Some n) is same = inr (n, same, is)
 
+-- a host's class has cells of its own
+pub same_class : (a b : HostClass) → class_cells a ≡ class_cells b → a ≡ b
+same_class a b is =
+    let host : a.host ≡ b.host = cc in
+    let class : a.class ≡ b.class = cc in
+    (λ i. record { host = host i; class = class i })
+
 next_column : (v : Value) (row : Row) (a : ℕ) → column (v ∷ row) (a + 1) ≡ column row a
 next_column v row a = rw add-one refl
 
-shifted : (v : Value) (row : Row) (a n : ℕ) → map (column (v ∷ row)) (range_with_len (a + 1) n) ≡ map (column row) (range_with_len a n)
+pub shifted : (v : Value) (row : Row) (a n : ℕ) → map (column (v ∷ row)) (range_with_len (a + 1) n) ≡ map (column row) (range_with_len a n)
 shifted v row a zero = refl
 shifted v row a (suc n) = rw (next_column v row a, shifted v row (a + 1) n) refl
 

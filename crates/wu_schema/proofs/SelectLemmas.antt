@@ -86,7 +86,7 @@ neither : (b : Bool) → (if b then affinity.None else affinity.None) ≡ affini
 neither true = refl
 neither false = refl
 
-one_less : (j : ℕ) → suc j - 1 ≡ j
+pub one_less : (j : ℕ) → suc j - 1 ≡ j
 one_less j = omega arith
 
 next_place : (k : ℕ) → suc k ≡ k + 1

@@ -7,7 +7,7 @@ use Rattle.sqlite_resolve.specs.Write.{row, sets_from, updated, with_place}
 use Rattle.sqlite_typing.specs.Types.{are_tests, are_typed, is_count}
 use Rattle.wu_schema.proofs.ExprLemmas.{parameter, parameter_lowers, scope, so_far}
 use Rattle.wu_schema.proofs.QueryLemmas.{alone, plain_query}
-use Rattle.wu_schema.proofs.SelectLemmas.{AreStrict, CompilesTo, FitsUnder, IsFound, Test, compiles_to, meets, name_at, places, where_cost, where_lowers_with, where_of}
+use Rattle.wu_schema.proofs.SelectLemmas.{AreStrict, CompilesTo, FitsUnder, IsFound, Test, compiles_to, meets, name_at, places, where_cost, where_lowers_with, where_of, one_less}
 
 -- an UPDATE: its text, its parameters, the columns that it sets, to the parameters from the second on, and its tests
 pub record SetBy : Type 0 where
@@ -54,9 +54,6 @@ module _ (table : Table) (first_value : ℕ) (q : SetBy) where
 module _ (schema : Schema) (at : ℕ) (table : Table) (has : HasTable schema table.name at table) (from : ℕ) (q : SetBy) (fits : SetFits table from q) where
   abbrev here : Context
   here = scope schema table.name at [] false true
-
-  one_less : (j : ℕ) → suc j - 1 ≡ j
-  one_less j = omega arith
 
   sets_lower : (ks : List ℕ) (j b : ℕ) (done : List ℕ) (terms : List Term) → length ks < b → ArePlaced table done ks
       → sets_from here table (done, terms) (assigns_from table j ks) (so_far 2 b nothing) ≡ Ok ((done ++ map (place_of table) ks, terms ++ values_from j ks), so_far 2 (b - length ks) nothing)

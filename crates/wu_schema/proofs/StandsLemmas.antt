@@ -1,5 +1,5 @@
 -- What each change keeps of the world that a database stands for.
-use Rattle.wu_schema.proofs.Words.{Bool, Database, Enforced, Has, HasNamed, HasTables, HoldsAll, IsCalm, IsDatabase, IsPermutation, IsPermutation-cons, IsPermutation-map, IsPermutation-trans, IsShaped, IsShaped-filter, List, ListsAll, OwnsTree, ParentKey, ProjectTrees, PutsOne, Reference, RefersOnlyTo, Row, Schema, Some, Table, Trees, Workunit, [], all_has, ap, ap₂, arith, bytes_eq, bytes_eq-Decides, codes, cond, drop, false, false_from_ne_true, filter, filter-map, find, inl, inr, instances_of, is_taken, list_any, map, not, parent_key, pipeline, position_from, put_row, refl, same_name, slice_get, some_from, subst, suc, sym, true, workunit_at, ℕ, ◌++◌, ◌+◌, ◌-◌, ◌==◌, ◌∙◌, ◌∷◌, ◌≡◌, ◌≢◌, ◌≤◌}
+use Rattle.wu_schema.proofs.Words.{Bool, Database, Enforced, Has, HasNamed, HoldsAll, IsCalm, IsDatabase, IsPermutation, IsPermutation-cons, IsPermutation-map, IsPermutation-trans, IsShaped, IsShaped-filter, List, ListsAll, OwnsTree, ParentKey, PutsOne, Reference, RefersOnlyTo, Row, Schema, Some, Table, Trees, Workunit, [], all_has, ap, ap₂, arith, bytes_eq, bytes_eq-Decides, codes, cond, drop, false, false_from_ne_true, filter, filter-map, find, inl, inr, instances_of, is_taken, list_any, map, not, parent_key, pipeline, position_from, put_row, refl, same_name, slice_get, some_from, subst, suc, sym, true, workunit_at, ℕ, ◌++◌, ◌+◌, ◌-◌, ◌∙◌, ◌∷◌, ◌≡◌, ◌≢◌, ◌≤◌}
 use Rattle.std.proofs.lemmas.List.Sorted.{IsPermutation-to_front}
 use Rattle.sqlite_trees.specs.declared.store.Shape.TheVariants as shape
 use Rattle.sqlite_rules.proofs.ListLemmas.{has_got}
@@ -12,12 +12,6 @@ use Rattle.wu_schema.proofs.CalmLemmas.{calm_child}
 use Rattle.wu_schema.proofs.QuietLemmas.{same_some}
 use Rattle.wu_schema.proofs.PutLemmas.{put_beside}
 use Rattle.wu_schema.proofs.RowLemmas.{childless, filter_same}
-
--- two tables of other names have other trees
-pub differ : (tables : List Table) (s t : Table) → find (λ u. u.tree == s.tree) tables ≡ Some s → find (λ u. u.tree == t.tree) tables ≡ Some t → bytes_eq s.name s.name ≡ true → bytes_eq s.name t.name ≡ false → s.tree ≢ t.tree
-differ tables s t is_s is_t own other same =
-    let e : s ≡ t = same_some (sym is_s ∙ ap (λ n. find (λ (u : Table). u.tree == n) tables) same ∙ is_t) in
-    absurd (let f = sym own ∙ ap (λ (u : Table). bytes_eq s.name u.name) e ∙ other in cc)
 
 pub is_there : (schema : Schema) (name : List ℕ) (t : Table) → HasNamed schema name t → Has schema.tables t
 is_there schema name t has = has_got schema.tables has.0 t has.1.there
@@ -94,9 +88,6 @@ module _ (schema : Schema) (work : ℕ) (has : HasNamed schema (codes "workunit"
 
     pub child_apart : child.tree ≢ work
     child_apart same = absurd (let bare = sym (ap (λ (u : Table). u.references) (has.2 child is.listed same)) ∙ is.refers in cc)
-
-pub workunit_found : (version : ℕ) (schema : Schema) (t : ProjectTrees) → HasTables version schema t → find (λ u. same_name u.name (codes "workunit")) schema.tables ≡ Some (workunit_at t.workunit)
-workunit_found version schema t has = work_found schema t.workunit has.workunit
 
 -- each of our tables in another tree keeps its rows
 abbrev pub KeepsBut : Database → Database → ℕ → Type 0

@@ -1,5 +1,5 @@
 -- Which errors a SELECT may answer, where it compiles and its parameters fit.
-use Rattle.wu_schema.proofs.Words.{Compiled, Error, FailsToQuery, FailsToShow, HasTable, IsFailure, IsNotRun, IsSome, List, Name, None, Ok, Parsed, Query, RefusesQuery, Result, Row, State, StoreError, Term, Trees, [], accepts_program, append-nil, arith, fault_of, inl, inr, length, refl, store_error, subst, sym, true, with_command, ℕ, ◌∙◌, ◌∷◌, ◌≡◌, ◌≤◌}
+use Rattle.wu_schema.proofs.Words.{Compiled, Error, FailsToQuery, FailsToShow, HasTable, IsFailure, IsNotRun, IsSome, List, Name, None, Parsed, Query, RefusesQuery, Row, State, StoreError, Term, Trees, [], accepts_program, append-nil, arith, fault_of, inl, inr, length, refl, store_error, subst, sym, true, with_command, ℕ, ◌∙◌, ◌∷◌, ◌≡◌, ◌≤◌}
 use Rattle.sqlite.specs.Program.{ProgramOverflows}
 use Rattle.sqlite.specs.Command.TheVariants.{Select}
 use Rattle.sqlite_trees.specs.declared.error.StoreError.TheVariants as kind
@@ -14,6 +14,7 @@ use Rattle.wu_schema.proofs.QueryLemmas.{plain_query, alone}
 use Rattle.sqlite_schema.specs.declared.schema.Table.{Table}
 use Rattle.wu_schema.proofs.SelectLemmas.{Asked, Fits, IsTyped, parsed_of, query_of, names_of, tests_of, terms_of, compiles, accepts_is}
 use Rattle.wu_schema.proofs.SelectLemmas.{CompilesTo}
+use Rattle.wu_schema.proofs.ReadLemmas.{same_ok}
 
 -- a failure of the store is one of memory, disk or size
 pub store_told : (cause : StoreError) → IsFailure (fault_of (store_error cause))
@@ -27,9 +28,6 @@ failed_told old new big e h = subst (λ x. IsFailure (fault_of x)) (sym h.1) (st
 pub never_over : (tree : ℕ) (q : Query) (tests shows : List Term) (db : Trees) (params : Row) → q.group ≡ None → q.from ≡ (plain_query tree tests shows).from → ¬ ProgramOverflows db params [] [] q
 never_over tree q tests shows db params none from (inl sums) = absurd (rw none at sums)
 never_over tree q tests shows db params none from (inr folds) = absurd (let h = rw from at folds in h.4)
-
-same_ok : {X E : Type 0} {a b : X} → ◌≡◌ {A = Result X E} (Ok a) (Ok b) → a ≡ b
-same_ok e = cc
 
 module _ (text : List ℕ) (params : Row) (old new : State) (p : Parsed) (q : Query) (names : List Name) (it : CompilesTo old.now.schema text p (Select (alone q) names)) (whole : length text ≤ p.tail) (given : length params ≡ length p.names)
     (accepted : accepts_program old.now.schema [] q params ≡ true) (never : ¬ ProgramOverflows old.now.trees params [] [] q) (unlimited : old.step_limit ≡ None) where

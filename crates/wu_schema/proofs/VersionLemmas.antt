@@ -149,7 +149,7 @@ module _ (old new : State) (lacks : LacksProject old.now.schema) where
 
 -- ---- from the rows to the version
 
-one_version : (rows : List Row) (a b : ℕ) → AreOfVersion rows a → AreOfVersion rows b → a ≡ b
+pub one_version : (rows : List Row) (a b : ℕ) → AreOfVersion rows a → AreOfVersion rows b → a ≡ b
 one_version rows a b x y = let same = sym x.1 ∙ y.1 in cc
 
 -- one row in another order is the same row

@@ -100,14 +100,6 @@ GoesBack g old new = HasCleanDisk (state g new) → IsBack (state g old) (state 
 abbrev pub CommitsNothing : {S : Type 0} → Ghosts S → Held S → Held S → Type 0
 CommitsNothing g old new = Survives (state g old) (state g new) (λ _. ⊥)
 
--- On a clean disk, this holds of an answer and of each world that the tables represent.
-abbrev pub TellsWorld : {S T E : Type 0} → Ghosts S → Held S → Held S → Result T E → (T → World → Type 0) → Type 0
-TellsWorld g old new result Is = HasCleanDisk (state g new) → IfOk result (λ found. (world : World) → Refines (state g old).now world → Is found world)
-
--- The answer is what each represented world has.
-abbrev pub Answers : {S T : Type 0} → Ghosts S → Held S → Held S → Result T Fault → (World → T) → Type 0
-Answers g old new result answer = TellsWorld g old new result (λ found world. found ≡ answer world)
-
 -- What a statement in a transaction does to it, whatever it answers.
 pub record StatementFrame {S T E : Type 0} (g : Ghosts S) (old new : Transaction S) (result : Result T E) : Type 0 where
   pub same_reference : new.conn.ghost_name ≡ old.conn.ghost_name

@@ -270,10 +270,6 @@ stays_asked g old new (Err fault) it was clean = elim (it.refused clean) [
 pub never_err : {T : Type 0} (x : T) → ◌≢◌ {A = Result T Fault} (Ok x) (Err Broken)
 never_err x is = absurd cc
 
--- what was asked so far was answered
-pub asks_done : {S T : Type 0} (g : Ghosts S) (old new : Held S) (x : T) → Asks g old new (Ok x) → Asks {T = Unit {0}} g old new (Ok tt)
-asks_done g old new x it = asks_made {U = Unit {0}} g old new x (Ok tt) (never_err tt) it
-
 -- the connection is open after what was asked then, too
 pub opens_then : {S U : Type 0} (g : Ghosts S) (mid new : Held S) → (HasCleanDisk (state g mid) → IsTrue (state g mid).is_open) → (r : Result U Fault) → Asks g mid new r → ServesUnlessFailed g new r
 opens_then g mid new opens r asks clean = stays_asked g mid new r asks (opens (omega (arith, asks.crash.clean))) clean

@@ -3,7 +3,8 @@ use Rattle.wu_schema.proofs.Words.{Binary, Bool, Int, Less, List, None, Option, 
 use Rattle.std.specs.Option.{option_map_or}
 use Rattle.sqlite_sql.specs.declared.ops.CompareOp.TheVariants as compare
 use Rattle.wu_core.specs.declared.workunit.HostClass.{HostClass}
-use Rattle.wu_core.proofs.HostLemmas.{Ascends, below, matches, pairs_ascend}
+use Rattle.wu_core.proofs.HostLemmas.{Ascends, matches, pairs_ascend}
+use Rattle.wu_core.proofs.ClassLemmas.{Before}
 use Rattle.wu_schema.specs.Tables.{IsClassedVersion}
 use Rattle.wu_schema.proofs.Parts.{HostClasses, IsIn, Part, WorkClasses, name_of, table_in}
 use Rattle.wu_schema.proofs.RowLemmas.{one_test}
@@ -62,9 +63,6 @@ is_named host it = bytes_eq it.host host
 
 abbrev pub row_named : List ℕ → World → Option Row
 row_named host world = option_map class_row (find (is_named host) world.classes)
-
-abbrev pub Before : HostClass → HostClass → Type 0
-Before one other = below one.host other.host
 
 pub rising : (classes : List HostClass) → Ascends Before classes → IsAscending Before classes
 rising [] up = tt

@@ -12,7 +12,7 @@ use Rattle.sqlite_trees.specs.declared.store.Shape.TheVariants as shape
 use Rattle.wu_core.specs.Classes.{with_class}
 use Rattle.wu_core.specs.declared.marks.Marks.{Marks}
 use Rattle.wu_core.specs.declared.workunit.HostClass.{HostClass}
-use Rattle.wu_core.proofs.ClassLemmas.{class_comes, has_class, in_order-set}
+use Rattle.wu_core.proofs.ClassLemmas.{class_comes, has_class, in_order-set, Before}
 use Rattle.wu_core.proofs.HostLemmas.{Ascends, below, by_order, matches, one_name, order, pairs_ascend}
 use Rattle.wu_schema.specs.Queue.{HasQueue}
 use Rattle.wu_schema.specs.Tables.{queue_at}
@@ -27,7 +27,7 @@ use Rattle.wu_schema.proofs.QueueLemmas.{queue_apart, queue_beside, queue_calm, 
 use Rattle.wu_schema.proofs.RowLemmas.{filter_same, int_value, one_test}
 use Rattle.wu_schema.proofs.SelectLemmas.{CompilesTo, compiles_to, test_lowers}
 use Rattle.wu_schema.proofs.StandsLemmas.{is_there}
-use Rattle.wu_store.specs.Classes.{ChangesClasses, with_host_class}
+use Rattle.wu_store.specs.Classes.{ChangesClasses, with_classed_host}
 use Rattle.wu_store.specs.StandsFor.{KnowsClasses}
 use Rattle.wu_store.proofs.ChangeLemmas.{cast_number}
 use Rattle.wu_store.proofs.DeleteEffect.{delete_does}
@@ -135,9 +135,6 @@ cuts old new tree has host count h =
 
 -- ---- the world without the host's class
 
-abbrev Before : HostClass → HostClass → Type 0
-Before one other = below one.host other.host
-
 abbrev is_other : List ℕ → HostClass → Bool
 is_other host it = not (bytes_eq it.host host)
 
@@ -200,14 +197,14 @@ module _ (old new : State) (world : World) (known : KnowsClasses world) (s : Ref
   put : PutsOne old.now new.now tree new_row
   put = let has = s.tables.host_class known in puts_one (codes "host_class") host_class_at host_put host_fits (class_cells it) old new has.0 tree has.1 (Null ∷ class_cells it) _ (put_kept tree it) refl count ran
 
-  host_comes : has_class it.host world.classes ≡ false → Refines new.now (with_host_class it.host it.class world)
-  host_comes none = frame_one old.now new.now world (with_host_class it.host it.class world) s HostClasses known put.schema refl (keeps_put old.now new.now world s HostClasses new_row known put) carry (
+  host_comes : has_class it.host world.classes ≡ false → Refines new.now (with_classed_host it.host it.class world)
+  host_comes none = frame_one old.now new.now world (with_classed_host it.host it.class world) s HostClasses known put.schema refl (keeps_put old.now new.now world s HostClasses new_row known put) carry (
     holds_permuted (subst (λ cs. IsPermutation cs (map class_cells (with_class it.host it.class world.classes))) (map-append class_cells world.classes (it ∷ [])) (IsPermutation-map class_cells _ _ (class_comes it.host it.class world.classes none)))
         (subst (λ rs. HoldsAll rs (map class_cells world.classes ++ class_cells it ∷ [])) (sym put.rows) (holds_put (class_cells it) (map class_cells world.classes) (old.now.trees tree) put.fresh (s.rows.classes known).hosts)),
     in_order-set it.host it.class world.classes s.rows.classes_in_order,
   ) put.sound
     where
-      carry : (p : Part) → is_part HostClasses p ≡ false → (rs : List Row) → Holds p rs world → Holds p rs (with_host_class it.host it.class world)
+      carry : (p : Part) → is_part HostClasses p ≡ false → (rs : List Row) → Holds p rs world → Holds p rs (with_classed_host it.host it.class world)
       carry HostClasses off rs h = absurd (cc)
       carry _ off rs h = h
 
@@ -243,7 +240,7 @@ module _ (host : List ℕ) (class : ℕ) where
       (λ high. rw (matches host one.host Greater high, high) (ap (λ its. one ∷ its) (comes_back more up.1)))
 
 -- whatever the world
-pub changes_host : (it : HostClass) (old mid new : State) (count : ℕ) → Executes cut_text (Text it.host ∷ []) old mid (Ok count) → (more : ℕ) → Executes host_put.text (class_cells it) mid new (Ok more) → ChangesClasses (with_host_class it.host it.class) old.now new.now
+pub changes_host : (it : HostClass) (old mid new : State) (count : ℕ) → Executes cut_text (Text it.host ∷ []) old mid (Ok count) → (more : ℕ) → Executes host_put.text (class_cells it) mid new (Ok more) → ChangesClasses (with_classed_host it.host it.class) old.now new.now
 changes_host it old mid new count one more two = record {
   stands = λ world known s.
       let left = host_goes old mid world known s it.host count one in

@@ -125,9 +125,6 @@ module _ (row : Row) (w : Workunit) (world : World) (of : IsNumberOf row w world
   pub number_told : (n : ℕ) → Restores number (λ _. ⊤) (column row 0) (Ok n) → n ≡ w.number
   number_told = told_by_row row w.number of.row_is
 
-  pub number_read : (r : Result ℕ Fault) → Restores number (λ _. ⊤) (column row 0) r → IfErr r (λ fault. fault ≢ NotAProject)
-  number_read = read_by_row row w.number of.row_is
-
   -- what is found at the number
   pub told_present : (n : ℕ) → n ≡ w.number → (found : Option Workunit) → found ≡ numbered n world → found ≡ Some w
   told_present n same found is = is ∙ ap (λ m. numbered m world) same ∙ of.present

@@ -3,7 +3,8 @@
 -- sum is still not below 2 ^ 63: with 2 ^ 62 ≤ a < 2 ^ 63, a rounds to 1024 * k, the closest such multiple, so b is 2 ^
 -- 63 - 512 - 1024 * k or more. That is a float, so b's float is no smaller, and the exact sum of the two floats is 2 ^
 -- 63 - 512 or more. 2 ^ 63 - 512 lies halfway between two floats, and the even one is 2 ^ 63.
-use Rattle.wu_schema.proofs.Words.{Bool, Int, Integer, T, Value, ap, arith, binary, cast, cond, div-add-mod', false, false_from_ne_true, inl, inr, is_of, le_of_mul-le-mul_right, le_trans, mul-le-mul_right, mul-one, mul-pos, mul_assoc, mul_comm, mul_right_comm, nat_lt, nat_tests, pos, refl, subst, suc, sym, true, true≢false, unary, value_cmp, ℕ, ℤ, ◌%◌, ◌*◌, ◌+◌, ◌-◌, ◌/◌, ◌<◌, ◌^◌, ◌∙◌, ◌≡◌, ◌≤◌, ◌⊎◌}
+use Rattle.wu_schema.proofs.Words.{Bool, Int, Integer, T, Value, ap, arith, binary, cast, cond, div-add-mod', false, false_from_ne_true, inl, inr, is_of, le_of_mul-le-mul_right, le_trans, mul-le-mul_right, mul-one, mul-pos, mul_assoc, mul_comm, mul_right_comm, nat_lt, nat_tests, pos, refl, subst, suc, sym, true, true≢false, unary, value_cmp, ℕ, ◌%◌, ◌*◌, ◌+◌, ◌-◌, ◌/◌, ◌<◌, ◌^◌, ◌∙◌, ◌≡◌, ◌≤◌, ◌⊎◌}
+use Rattle.wu_schema.proofs.InsertEffect.{cast_int}
 use Prim.Native.Nat.{compare, Ordering}
 use native.Mathlib.Nat.{add-mul, le_antisymm, le_of_eq, le_refl, lt_of_lt_of_le, lt_of_not-le, not-le_of_lt}
 use lib.Dec.{is_le, leb→le}
@@ -27,14 +28,6 @@ use Rattle.sqlite.specs.Ops.{real, to_real}
 
 abbrev sum_of : ℕ → ℕ → Value
 sum_of a b = binary (by.Arith arith_op.Add) (Int (pos a)) (Int (pos b))
-
-either : (c : Bool) (x : Value) → cond c x x ≡ x
-either true x = refl
-either false x = refl
-
-cast_int : (n : ℤ) → cast Integer (Int n) ≡ Int n
-unfolding unary
-cast_int n = either _ (Int n)
 
 below : (n : ℕ) → n < 2 ^ 63 → nat_lt n (2 ^ 63) ≡ true
 below n h = grind (arith, nat_tests)

@@ -10,7 +10,7 @@ use Rattle.wu_schema.specs.Others.{SparesOthers}
 use Rattle.wu_store.specs.Changes.{with_workunit, with_replaced, without_workunit, with_grants, with_archived, with_import, with_next, with_version, IsNextPlace}
 use Rattle.wu_core.specs.Storable.{IsAbove}
 use Rattle.wu_store.specs.Answers.{numbered}
-use Rattle.wu_store.specs.Classes.{with_host_class}
+use Rattle.wu_store.specs.Classes.{with_classed_host}
 use Rattle.wu_store.specs.StandsFor.{KnowsClasses, StandsFor, marked}
 use Rattle.wu_store.specs.declared.changes.Change.{Change}
 use Rattle.wu_store.specs.declared.changes.Change.TheVariants.{Add, Replace, Remove, Grants, Archive, Next, Keep, Class, Upgrade}
@@ -38,7 +38,7 @@ made (Grants _ grants _) world = with_grants grants.items world
 made (Archive _ a) world = with_archived a world
 made (Next number) world = with_next number world
 made (Keep kept) world = with_import (import_of_change kept) world
-made (Class host class) world = with_host_class host class world
+made (Class host class) world = with_classed_host host class world
 made (Upgrade from rows) world = with_version 3 world
 
 -- The world after these changes, one after another.

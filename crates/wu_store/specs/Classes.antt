@@ -66,8 +66,8 @@ abbrev pub with_set_class : ℕ → ℕ → World → World
 with_set_class number class world = record world { workunits = map (and_class number class) world.workunits }
 
 -- The world with this class of the host of this name.
-abbrev pub with_host_class : List ℕ → ℕ → World → World
-with_host_class host class world = record world { classes = with_class host class world.classes }
+abbrev pub with_classed_host : List ℕ → ℕ → World → World
+with_classed_host host class world = record world { classes = with_class host class world.classes }
 
 -- Tables that represented a world with classes represent what this makes of it, and a queue stays.
 pub record ChangesClasses (change : World → World) (old new : Database) : Type 0 where

@@ -4,7 +4,7 @@ ghost use Rattle.std.specs.Prelude.{◌<◌, ◌^◌};
 ghost use Rattle.wu_schema.specs.Calls.{Does, StatementFrame, TransactionFrame};
 ghost use Rattle.wu_schema.specs.Made.{host_class_table, workunit_class_table};
 ghost use Rattle.wu_schema.specs.Others.{Spares, SparesBeside};
-ghost use Rattle.wu_store.specs.Classes.{AddsClass, ChangesClasses, FillsClasses, LoadsClass, LoadsHostClass, PutsClass, UpgradesClasses, class_named, class_numbered, with_host_class, with_set_class};
+ghost use Rattle.wu_store.specs.Classes.{AddsClass, ChangesClasses, FillsClasses, LoadsClass, LoadsHostClass, PutsClass, UpgradesClasses, class_named, class_numbered, with_classed_host, with_set_class};
 ghost use Rattle.wu_store.specs.Reads.{FindsAt, ReadsClassed};
 ghost use Rattle.wu_store.specs.Loading.{ServesUnlessFailed};
 
@@ -108,7 +108,7 @@ pub fn put_host_class<S: Alter>(
     // After `Ok`, in a represented world with classes the host has this class; each other host, all
     // else and a queue stay.
     ensures sets { Does S.Store tx.old tx.new result
-        (ChangesClasses (with_host_class host.now class)) }
+        (ChangesClasses (with_classed_host host.now class)) }
     // After `Ok`, if its table is there, the tables of other programs stay.
     ensures spares { Does S.Store tx.old tx.new result (Spares host_class_table) }
 {

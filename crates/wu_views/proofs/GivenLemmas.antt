@@ -10,7 +10,7 @@ use Rattle.sqlite.proofs.Callers.{EndsIn, begins_shown, given_begin}
 use Rattle.sqlite.proofs.StateLemmas.{survives_then, survives_weaker}
 use Rattle.wu_core.specs.declared.fault.Fault.TheVariants.{Broken}
 use Rattle.wu_schema.specs.Asking.{Asks, IsSelect, ServesUnlessFailed}
-use Rattle.wu_schema.proofs.AskingLemmas.{asks_failed, asks_read, asks_then, opens_failed, opens_read}
+use Rattle.wu_schema.proofs.AskingLemmas.{asks_failed, asks_read, asks_then, opens_failed, opens_read, unchanged_then}
 use Rattle.wu_schema.proofs.Parts.{IsIn, Part, name_of, parts_there, table_in, tree_in}
 use Rattle.wu_schema.proofs.QueryLemmas.{alone}
 use Rattle.wu_schema.proofs.QuietLemmas.{same_ok}
@@ -23,13 +23,6 @@ use Rattle.wu_store.proofs.AskLemmas.{IsQuestion, never_err, never_refused}
 pub unchanged_self : (old new : State) → IsUnchanged old new → IsUnchanged new new
 unchanged_self old new same = (record { was_open = same.0.is_open; is_open = same.0.is_open; now_is = refl; committed_is = refl; mode = refl }, record { changes = refl; last_rowid = refl }, refl)
 
-pub unchanged_next : (a b c : State) → IsUnchanged a b → IsUnchanged b c → IsUnchanged a c
-unchanged_next a b c p q = (
-  record { was_open = p.0.was_open; is_open = q.0.is_open; now_is = q.0.now_is ∙ p.0.now_is; committed_is = q.0.committed_is ∙ p.0.committed_is; mode = q.0.mode ∙ p.0.mode },
-  record { changes = q.1.changes ∙ p.1.changes; last_rowid = q.1.last_rowid ∙ p.1.last_rowid },
-  q.2 ∙ p.2,
-)
-
 module _ (text : List ℕ) (select : IsSelect text) (params : Row) (rows : List Row) where
   -- the rows of an answer are those over what it was asked over, unchanged, before it
   pub shown_since : (first old new : State) → IsUnchanged first old → Shown text params old new rows → Shown text params first new rows
@@ -38,7 +31,7 @@ module _ (text : List ℕ) (select : IsSelect text) (params : Row) (rows : List 
       let none = shows_none old.now.schema text select h.0 h.1.is in
       let db : old.now ≡ first.now = same.0.now_is in
       let read = subst (λ r. ShowsRows old new text h.0 (timed params h.0.formats h.1.now) rows r) none h.2 in
-      let shows : ShowsRows first new text h.0 (timed params h.0.formats h.1.now) rows None = (read.0, subst (λ (d : Database). IsSourceOf (reads_listing d.schema text) d read.0) db read.1, read.2, unchanged_next first old new same read.3) in (
+      let shows : ShowsRows first new text h.0 (timed params h.0.formats h.1.now) rows None = (read.0, subst (λ (d : Database). IsSourceOf (reads_listing d.schema text) d read.0) db read.1, read.2, unchanged_then first old new same read.3) in (
         h.0,
         record { is = subst (λ (d : Database). understood d.schema text ≡ Ok h.0) db h.1.is; whole = h.1.whole; given = h.1.given; now = h.1.now },
         subst (λ r. ShowsRows first new text h.0 (timed params h.0.formats h.1.now) rows r) (sym none) shows,
@@ -50,7 +43,7 @@ module _ (text : List ℕ) (select : IsSelect text) (params : Row) (rows : List 
   shown_until old new last h same =
       let none = shows_none old.now.schema text select h.0 h.1.is in
       let read = subst (λ r. ShowsRows old new text h.0 (timed params h.0.formats h.1.now) rows r) none h.2 in
-      let shows : ShowsRows old last text h.0 (timed params h.0.formats h.1.now) rows None = (read.0, read.1, read.2, unchanged_next old new last read.3 same) in
+      let shows : ShowsRows old last text h.0 (timed params h.0.formats h.1.now) rows None = (read.0, read.1, read.2, unchanged_then old new last read.3 same) in
       (h.0, h.1, subst (λ r. ShowsRows old last text h.0 (timed params h.0.formats h.1.now) rows r) (sym none) shows)
 
 returns_some : (r : Result Compiled CompileError) → Returns r → (c : Compiled) × (r ≡ Ok c) × IsSome c.returning
@@ -123,7 +116,7 @@ module _ {S : Type 0} (g : Ghosts S) (text : List ℕ) (select : IsSelect text) 
           mode = λ idle. mode (walk.mode idle);
           crash = both;
           gave = λ clean. (rw is at gives clean) text params given (walk.gave (before clean));
-          same = λ clean. unchanged_next (state g old) (state g now) (state g new) (walk.same (before clean)) (same clean);
+          same = λ clean. unchanged_then (state g old) (state g now) (state g new) (walk.same (before clean)) (same clean);
         }
 
         -- the rows that were given are the answer
@@ -131,10 +124,10 @@ module _ {S : Type 0} (g : Ghosts S) (text : List ℕ) (select : IsSelect text) 
         walk_ends none clean = shown_since text select params given (state g old) (state g now) (state g new) (walk.same (before clean)) ((rw none at gives clean) text params given (walk.gave (before clean)))
 
         pub end_asks : {T : Type 0} (r : Result T Fault) → r ≢ Err Broken → Asks g old new r
-        end_asks r other = asks_read g old new (λ idle. mode (walk.mode idle)) both (λ clean. unchanged_next (state g old) (state g now) (state g new) (walk.same (before clean)) (same clean)) r other
+        end_asks r other = asks_read g old new (λ idle. mode (walk.mode idle)) both (λ clean. unchanged_then (state g old) (state g now) (state g new) (walk.same (before clean)) (same clean)) r other
 
         pub end_opens : {T : Type 0} (r : Result T Fault) → ServesUnlessFailed g new r
-        end_opens r = opens_read g old new (λ idle. mode (walk.mode idle)) both (λ clean. unchanged_next (state g old) (state g now) (state g new) (walk.same (before clean)) (same clean)) r
+        end_opens r = opens_read g old new (λ idle. mode (walk.mode idle)) both (λ clean. unchanged_then (state g old) (state g now) (state g new) (walk.same (before clean)) (same clean)) r
 
       -- a row that is not read
       module _ (e : Error) (fault : Fault) (is : fault ≡ fault_of e) (fails : HasCleanDisk (state g new) → FailsToAdvance g now new e) where

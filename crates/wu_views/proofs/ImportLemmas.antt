@@ -1,18 +1,13 @@
 -- Imports in order: all of them, each once, and ascending.
-use Rattle.wu_schema.proofs.Words.{AllByRecursion, Equal, Greater, Import, Int, IsAscending, IsPermutation, IsPermutation-refl, IsPermutation-trans, Less, List, Ordering, [], ap, arith, bytes_eq, import_kind_code, is_eq, is_import, pos, refl, true, false, value_cmp, ℕ, ◌==◌, ◌∙◌, ◌∷◌, ◌≡◌}
+use Rattle.wu_schema.proofs.Words.{AllByRecursion, Equal, Greater, Import, IsAscending, IsPermutation, IsPermutation-refl, IsPermutation-trans, Less, List, Ordering, [], ap, arith, bytes_eq, import_kind_code, is_eq, is_import, refl, true, false, ℕ, ◌==◌, ◌∙◌, ◌∷◌, ◌≡◌}
 use Rattle.std.specs.Cmp.{IsTotalOrder}
 use Rattle.std.specs.Cmp.Lexicographic.{slice_cmp, texts_ties}
 use Rattle.std.specs.Ordering.{nat_cmp, ordering_reverse, ordering_then}
 use Rattle.std.proofs.lemmas.Bool.Decides.{nat_tests}
 use Rattle.std.proofs.lemmas.Cmp.{nat_cmp_total, nat_list_cmp_total, on_total, then_total}
 use Rattle.std.proofs.lemmas.List.Sorted.{IsPermutation-cons, IsPermutation-middle}
-use Rattle.sqlite_value.proofs.OrderLemmas.{value_cmp-Int}
 use Rattle.wu_core.proofs.HostLemmas.{by_order}
 use Rattle.wu_views.specs.Imports.{import_order, imports_in_order, with_import_placed}
-
--- numbers stand as they are stored
-pub codes_cmp : (m n : ℕ) → value_cmp (Int (pos m)) (Int (pos n)) ≡ nat_cmp m n
-codes_cmp m n = value_cmp-Int (pos m) (pos n) ∙ grind (arith, nat_tests)
 
 -- the first stands before the second
 abbrev pub Precedes : Import → Import → Type 0
@@ -54,7 +49,7 @@ each_follows a b low (one ∷ more) all = (order_total.trans a b one low all.0, 
 
 -- ---- ascending
 
-abbrev Differs : Import → Import → Type 0
+abbrev pub Differs : Import → Import → Type 0
 Differs a b = is_import a.kind a.name b ≡ false
 
 both_tie : (a b : Ordering) → ordering_then a b ≡ Equal → (a ≡ Equal) × (b ≡ Equal)

@@ -5,7 +5,6 @@ use Rattle.sqlite.specs.Order.{Row, column}
 use Rattle.sqlite.specs.declared.types.Value.TheVariants.{Blob, Text}
 use Rattle.wu_core.specs.declared.import.ImportKind.{ImportKind}
 use Rattle.wu_core.specs.declared.workunit.Archived.{Archived}
-use Rattle.wu_core.specs.declared.workunit.HostClass.{HostClass}
 use Rattle.wu_core.proofs.MaskLemmas.{flags_of}
 use Rattle.wu_core.specs.Codes.{assimilate_code, file_delete_code}
 use Rattle.wu_core.specs.Mask.{error_mask_code}
@@ -13,7 +12,7 @@ use Rattle.wu_core.specs.Parameters.{IsParameters, Parameters}
 use Rattle.wu_core.specs.Storable.{AreVerdicts, IsClass, IsName}
 use Rattle.wu_core.specs.declared.fault.Fault.{Fault}
 use Rattle.wu_core.specs.declared.workunit.Instance.{Instance}
-use Rattle.wu_schema.specs.Stored.{archived_cells, class_cells, number, number_or_null, parameter_cells}
+use Rattle.wu_schema.specs.Stored.{archived_cells, number, number_or_null, parameter_cells}
 use Rattle.wu_schema.specs.Restoring.{Restores}
 use Rattle.wu_schema.specs.Reading.{IsBareInstance, IsProgress, bare_instance_row, columns, host_row, kind_cell, progress_cells, verdicts_cell}
 use Rattle.wu_schema.specs.declared.rows.Progress.{Progress}
@@ -67,12 +66,6 @@ same_host h k is = ap host_of_row is
 
 pub same_archived : (a b : Archived) → archived_cells a ≡ archived_cells b → a ≡ b
 same_archived = same_by archived_cells read_archived archived_again
-
-pub same_class : (a b : HostClass) → class_cells a ≡ class_cells b → a ≡ b
-same_class a b is =
-    let host : a.host ≡ b.host = cc in
-    let class : a.class ≡ b.class = cc in
-    (λ i. record { host = host i; class = class i })
 
 pub same_import : (a b : ImportLine) → import_row a ≡ import_row b → a ≡ b
 same_import a b is =

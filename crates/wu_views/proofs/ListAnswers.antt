@@ -7,17 +7,19 @@ use Rattle.sqlite_value.proofs.OrderLemmas.{then-Equal, value_cmp-Text}
 use Rattle.sqlite_value.specs.declared.keys.Key.{Key}
 use Rattle.wu_core.specs.declared.workunit.HostClass.{HostClass}
 use Rattle.wu_core.proofs.HostLemmas.{once, pairs_ascend}
+use Rattle.wu_core.proofs.ClassLemmas.{Before}
 use Rattle.wu_schema.proofs.Parts.{Archive, HostClasses, Hosts, Imports}
 use Rattle.wu_schema.proofs.RowLemmas.{no_test}
 use Rattle.wu_schema.proofs.SelectLemmas.{Asked, Fits}
 use Rattle.wu_schema.specs.Refines.{host_of}
 use Rattle.wu_store.specs.StandsFor.{KnowsClasses}
-use Rattle.wu_store.proofs.ClassAnswers.{Before, rising}
+use Rattle.wu_store.proofs.ClassAnswers.{rising}
 use Rattle.wu_store.proofs.OrderAnswers.{behind_rowid, by_column, by_key, ordered, ordered_pair, pair, same_cmp, sorted, sure_in_order, sure_ordered}
 use Rattle.wu_store.proofs.ReadAnswers.{asked_answers}
+use Rattle.wu_store.proofs.KeyedLemmas.{numbers_compare}
 use Rattle.wu_views.specs.Imports.{import_order, imports_in_order}
 use Rattle.wu_views.specs.Listings.{all_results_shown, archive_of, import_shown, placed_archived_row, workunit_shown}
-use Rattle.wu_views.proofs.ImportLemmas.{codes_cmp, in_order_rises, in_order_same, Precedes}
+use Rattle.wu_views.proofs.ImportLemmas.{in_order_rises, in_order_same, Precedes}
 use Rattle.wu_views.proofs.JoinAnswers as joins
 use Rattle.wu_views.proofs.JoinTexts.{results_joined, results_text, workunits_joined, workunits_text}
 use Rattle.wu_views.proofs.ListLemmas.{AnswersAll, answers_all}
@@ -178,7 +180,7 @@ cmp_of tree = output_cmp (ordered tree [] import_shows [] import_sorts no_limit)
 -- rows stand as their imports
 cmp_is : (tree : ℕ) (a b : Import) → cmp_of tree (pair_of a) (pair_of b) ≡ import_order a b
 cmp_is tree a b =
-    ap (λ o. ordering_then o (ordering_then (value_cmp (Text a.name) (Text b.name)) Equal)) (codes_cmp (import_kind_code a.kind) (import_kind_code b.kind))
+    ap (λ o. ordering_then o (ordering_then (value_cmp (Text a.name) (Text b.name)) Equal)) (numbers_compare (import_kind_code a.kind) (import_kind_code b.kind))
     ∙ ap (ordering_then (nat_cmp (import_kind_code a.kind) (import_kind_code b.kind))) (then-Equal (value_cmp (Text a.name) (Text b.name)) ∙ value_cmp-Text a.name b.name)
 
 above_all : (tree : ℕ) (import : Import) (more : List Import) → AllByRecursion (Precedes import) more → AllByRecursion (λ b. cmp_of tree (pair_of import) b ≡ Less) (map pair_of more)

@@ -16,7 +16,7 @@ use Rattle.wu_schema.specs.Restoring.{Restores}
 use Rattle.wu_schema.specs.Stored.{archived_cells, class_cells}
 use Rattle.wu_schema.specs.Reading.{IsStoredHost, IsStoredHostClass, columns, host_row}
 use Rattle.wu_store.proofs.LoadLemmas.{never_unread}
-use Rattle.wu_schema.proofs.ReadingLemmas.{is_bare}
+use Rattle.wu_schema.proofs.ReadingLemmas.{is_bare, same_class}
 use Rattle.wu_views.specs.Imports.{imports_in_order}
 use Rattle.wu_views.specs.Lines.{AreHostsNamed, AreImportsStorable, IsStoredImportLine, IsStoredLine, IsStoredResult, archived_lines, class_lines, host_line_of, host_lines, import_line_of, import_lines, import_row, line_of, line_row, result_line_of, result_line_row, result_lines, workunit_lines}
 use Rattle.wu_views.specs.Listings.{IsRowOf, IsRowOfArchived, IsRowOfClass, IsRowOfHost, IsRowOfImport, IsRowOfResult, IsRowOfWorkunit, all_results_shown, archive_of, import_shown, placed_archived_row, result_shown, results_shown, workunit_shown}
@@ -25,7 +25,7 @@ use Rattle.wu_views.specs.declared.lines.ImportLine.{ImportLine}
 use Rattle.wu_views.specs.declared.lines.ResultLine.{ResultLine}
 use Rattle.wu_views.specs.declared.lines.WorkunitLine.{WorkunitLine}
 use Rattle.wu_views.proofs.ImportLemmas.{each_in_order}
-use Rattle.wu_views.proofs.LineLemmas.{same_archived, same_class, same_host, same_import, same_line, same_result}
+use Rattle.wu_views.proofs.LineLemmas.{same_archived, same_host, same_import, same_line, same_result}
 use Rattle.wu_views.proofs.ListAnswers.{archive_shown, classes_shown, hosts_shown, imports_shown, workunits_shown}
 use Rattle.wu_views.proofs.ListLemmas.{zip_each, zip_mapped, zip_rows}
 

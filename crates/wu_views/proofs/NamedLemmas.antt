@@ -13,7 +13,7 @@ use Rattle.std.specs.Ordering.{nat_cmp, ordering_reverse, ordering_then}
 use Rattle.std.specs.Prelude.{filter_map, option_map}
 use Rattle.wu_core.proofs.HostLemmas.{by_order}
 use Rattle.wu_core.specs.declared.import.ImportKind.TheVariants as kind
-use Rattle.wu_views.proofs.ImportLemmas.{each_in_order, in_order_rises, Precedes}
+use Rattle.wu_views.proofs.ImportLemmas.{each_in_order, in_order_rises, Precedes, Differs}
 use Rattle.wu_views.specs.Imports.{import_order, imports_in_order, with_import_placed}
 use Rattle.wu_core.specs.Codes.{import_kind_code}
 use Rattle.wu_core.specs.Storable.{AreVerdicts}
@@ -96,9 +96,6 @@ module _ (p : Import → Bool) where
   find_in_order (import ∷ more) alone =
       find_placed import (imports_in_order more) (λ is. each_in_order (λ one. p one ≡ false) more (none_passes import is more alone.0))
       ∙ ap (λ o. if p import then Some import else o) (find_in_order more alone.1)
-
-abbrev Differs : Import → Import → Type 0
-Differs a b = is_import a.kind a.name b ≡ false
 
 each_alone : (kind : ImportKind) (name : List ℕ) (import : Import) (more : List Import) → AllByRecursion (Differs import) more → AllByRecursion (PassesAlone (is_import kind name) import) more
 each_alone kind name import [] apart = tt

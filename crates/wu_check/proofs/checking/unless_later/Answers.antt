@@ -1,14 +1,14 @@
 use Rattle.wu_schema.proofs.Words.{Err, Fault, IfErr, IfOk, None, NotAProject, Ok, Option, Result, Some, rules, state, subst, ℕ, ◌≡◌}
 use Rattle.wu_schema.proofs.AskingLemmas.{asks_made}
-use Rattle.wu_loader.proofs.LookLemmas.{never_broken}
 use Rattle.wu_schema.specs.Versions.{AnswersVersion, RefusesVersion}
 use Rattle.wu_check.proofs.LaterLemmas.{known_later, refused_later, tells_row, told_later}
 use Rattle.wu_check.proofs.checking.unless_later.Goals.{in-Ok-Some+else-not-is_known, in-Ok+in-None-1, in-Err+in-NotAProject-1}
 use Rattle.wu_check.proofs.checking.unless_later.Goals as goal
+use Rattle.wu_store.proofs.AskLemmas.{never_err}
 
 pub returns-in-Ok-Some-clause-examines : goal.returns-in-Ok-Some-clause-examines
 returns-in-Ok-Some-clause-examines g c = record {
-  asks = asks_made g.S.Store c.args.conn.now c.version_of.new.conn c.in-Ok-Some.field-0 _ (never_broken _) c.in-Ok-Some.ensures.asks;
+  asks = asks_made g.S.Store c.args.conn.now c.version_of.new.conn c.in-Ok-Some.field-0 _ (never_err _) c.in-Ok-Some.ensures.asks;
   says = λ clean kept told.
       let now = (state g.S.Store c.args.conn.now).now in
       tells_row now c.in-Ok-Some.version (subst (AnswersVersion now) c.in-Ok-Some.field-0-is (c.in-Ok-Some.ensures.answers clean))

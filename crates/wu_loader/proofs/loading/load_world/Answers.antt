@@ -2,12 +2,13 @@ use Rattle.wu_schema.proofs.Words.{Database, Err, HasTables, IsDatabase, Ok, inr
 use Rattle.wu_core.specs.declared.fault.Fault.TheVariants.{Memory}
 use Rattle.wu_schema.proofs.AskingLemmas.{asks_made, asks_unchanged}
 use Rattle.wu_store.proofs.PlacedLemmas.{world_rises}
+use Rattle.wu_store.proofs.AskLemmas.{never_err}
 use Rattle.wu_loader.specs.Asked.{HasArranged, LooksAtTables}
 use Rattle.wu_loader.specs.Shown.{ShowsTables}
 use Rattle.wu_loader.specs.Worlds.{AreRowsOf}
 use Rattle.wu_loader.specs.declared.finding.Found.{Found}
 use Rattle.wu_loader.specs.declared.finding.Found.TheVariants as found
-use Rattle.wu_loader.proofs.LookLemmas.{looks_fault, memory_other, never_broken}
+use Rattle.wu_loader.proofs.LookLemmas.{looks_fault, memory_other}
 use Rattle.wu_loader.proofs.StandLemmas.{rows_stand, stands_arranged, stands_shown}
 use Rattle.wu_loader.proofs.loading.load_world.Given
 use Rattle.wu_loader.proofs.loading.load_world.Goals as goal
@@ -30,7 +31,7 @@ pub returns-in_err-rows-clause-answered : goal.returns-in_err-rows-clause-answer
 returns-in_err-rows-clause-answered g c = (handed g c).answered
 
 pub returns-in-Ok-clause-asks : goal.returns-in-Ok-clause-asks
-returns-in-Ok-clause-asks g c = asks_made g.S.Store c.args.conn.now c.table_rows.new.conn c.in_ok-rows.rows (Ok (found.World c.in-Ok.loaded)) (never_broken (found.World c.in-Ok.loaded)) c.in_ok-rows.ensures.asks
+returns-in-Ok-clause-asks g c = asks_made g.S.Store c.args.conn.now c.table_rows.new.conn c.in_ok-rows.rows (Ok (found.World c.in-Ok.loaded)) (never_err (found.World c.in-Ok.loaded)) c.in_ok-rows.ensures.asks
 
 pub returns-in-Ok-clause-opens : goal.returns-in-Ok-clause-opens
 returns-in-Ok-clause-opens g c = c.in_ok-rows.ensures.opens
@@ -51,7 +52,7 @@ returns-in-Err-Wrong-clause-none g c clean world readable is stands =
     none world readable (world_rises db world stands) (subst (λ v. AreRowsOf v c.in_ok-rows.rows world) is (stands_shown db stands.trees world stands.rows c.in_ok-rows.rows (subst (λ v. ShowsTables v db.trees stands.trees c.in_ok-rows.rows) (sym is) shown)))
 
 pub returns-in-Err-Wrong-clause-asks : goal.returns-in-Err-Wrong-clause-asks
-returns-in-Err-Wrong-clause-asks g c = asks_made g.S.Store c.args.conn.now c.table_rows.new.conn c.in_ok-rows.rows (Ok (found.Wrong c.in-Err-Wrong.wrong)) (never_broken (found.Wrong c.in-Err-Wrong.wrong)) c.in_ok-rows.ensures.asks
+returns-in-Err-Wrong-clause-asks g c = asks_made g.S.Store c.args.conn.now c.table_rows.new.conn c.in_ok-rows.rows (Ok (found.Wrong c.in-Err-Wrong.wrong)) (never_err (found.Wrong c.in-Err-Wrong.wrong)) c.in_ok-rows.ensures.asks
 
 pub returns-in-Err-Wrong-clause-opens : goal.returns-in-Err-Wrong-clause-opens
 returns-in-Err-Wrong-clause-opens g c = c.in_ok-rows.ensures.opens

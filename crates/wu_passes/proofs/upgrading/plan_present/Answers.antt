@@ -1,11 +1,11 @@
 use Rattle.wu_machine.specs.Requests.{AskUpgrade}
 use Rattle.wu_machine.specs.Sound.{IsProject}
 use Rattle.wu_plans.specs.Planning.{PlansFor}
-use Rattle.wu_store.proofs.AskLemmas.{reads_over, reads_then}
+use Rattle.wu_store.proofs.AskLemmas.{reads_over, reads_then, handed_is}
 use Rattle.std.proofs.Common.{arith, inr, rules}
 use Rattle.sqlite.specs.Held.{state}
 use Rattle.sqlite.specs.State.{HasCleanDisk}
-use Rattle.wu_plans.proofs.AskLemmas.{asks_handed, handed_is, handed_on}
+use Rattle.wu_plans.proofs.AskLemmas.{asks_handed, handed_on}
 use Rattle.wu_plans.proofs.ExitLemmas.{serves_handed}
 use Rattle.wu_passes.proofs.upgrading.plan_present.Goals as goal
 

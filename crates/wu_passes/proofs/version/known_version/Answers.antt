@@ -1,10 +1,11 @@
 use Rattle.std.proofs.Common.{◌≡◌, ◌<◌, Some, arith, inr, sym, ◌∙◌, rules}
 use Rattle.wu_core.specs.declared.fault.Fault.TheVariants.{Broken}
 use Rattle.wu_machine.specs.Machine.{present_version}
-use Rattle.wu_plans.proofs.AskLemmas.{asks_handed, asks_made, handed_is}
+use Rattle.wu_plans.proofs.AskLemmas.{asks_handed, asks_made}
 use Rattle.wu_plans.proofs.ExitLemmas.{handed_other, serves_handed, serves_open}
 use Rattle.wu_passes.proofs.AdoptingLemmas.{row_absent, row_known, row_later, row_unread}
 use Rattle.wu_passes.proofs.version.known_version.Goals as goal
+use Rattle.wu_store.proofs.AskLemmas.{handed_is}
 
 pub returns-in_default-clause-reads : goal.returns-in_default-clause-reads
 returns-in_default-clause-reads g c = record {

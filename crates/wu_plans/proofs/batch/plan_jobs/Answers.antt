@@ -4,9 +4,10 @@ use Rattle.sqlite.specs.Held.{state}
 use Rattle.wu_schema.specs.Refines.{Refines}
 use Rattle.wu_machine.specs.Batches.{first_taken}
 use Rattle.wu_plans.proofs.BatchLemmas.{jobs_planned, names_refused}
-use Rattle.wu_plans.proofs.AskLemmas.{asks_handed, asks_made, asks_stands, asks_then, handed_is, handed_on}
+use Rattle.wu_plans.proofs.AskLemmas.{asks_handed, asks_made, asks_stands, asks_then, handed_on}
 use Rattle.wu_plans.proofs.ExitLemmas.{memory_unbroken, memory_unrefused}
 use Rattle.wu_plans.proofs.batch.plan_jobs.Goals as goal
+use Rattle.wu_store.proofs.AskLemmas.{handed_is}
 
 pub returns-in_err-check_names : goal.returns-in_err-check_names
 returns-in_err-check_names g c = record {

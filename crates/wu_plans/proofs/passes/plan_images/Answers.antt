@@ -1,8 +1,9 @@
 use Rattle.std.proofs.Common.{rules, inr, ◌<◌, ◌^◌}
-use Rattle.wu_plans.proofs.AskLemmas.{asks_handed, asks_then, handed_is, handed_on}
+use Rattle.wu_plans.proofs.AskLemmas.{asks_handed, asks_then, handed_on}
 use Rattle.wu_plans.proofs.PlanLemmas.{classed}
 use Rattle.wu_plans.proofs.ExitLemmas.{handed_going, told_going}
 use Rattle.wu_plans.proofs.passes.plan_images.Goals as goal
+use Rattle.wu_store.proofs.AskLemmas.{handed_is}
 
 pub returns-in_err-taken-clause-reads : goal.returns-in_err-taken-clause-reads
 returns-in_err-taken-clause-reads g c =

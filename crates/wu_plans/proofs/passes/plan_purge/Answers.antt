@@ -3,8 +3,8 @@ use Rattle.wu_machine.specs.declared.command.Answer.TheVariants as answer
 use Rattle.wu_plans.specs.PassPlans.{asked}
 use Rattle.wu_plans.specs.Planning.{Plans}
 use Rattle.sqlite.specs.Held.{state}
-use Rattle.wu_store.proofs.AskLemmas.{asks_row, read_handed}
-use Rattle.wu_plans.proofs.AskLemmas.{asks_handed, asks_made, handed_is, handed_on}
+use Rattle.wu_store.proofs.AskLemmas.{asks_row, read_handed, handed_is}
+use Rattle.wu_plans.proofs.AskLemmas.{asks_handed, asks_made, handed_on}
 use Rattle.wu_plans.proofs.PassPlanLemmas.{purge_planned}
 use Rattle.wu_plans.proofs.PlanLemmas.{classed}
 use Rattle.wu_plans.proofs.ExitLemmas.{handed_going}

@@ -1,6 +1,6 @@
 use Rattle.std.proofs.Common.{rules}
-use Rattle.wu_passes.proofs.WalkLemmas.{goes_on}
 use Rattle.wu_passes.specs.Projects.{state_of}
+use Rattle.wu_passes.proofs.StandingLemmas.{goes_read}
 use Rattle.wu_report.proofs.WritingLemmas.{Writes-kept}
 use Rattle.wu_report.specs.Texts.{view_text}
 use Rattle.wu_report.proofs.views.show.Goals as goal
@@ -9,7 +9,7 @@ use Rattle.wu_report.proofs.views.show.Goals as goal
 pub returns-in-Ok : goal.returns-in-Ok
 returns-in-Ok g c = record {
   text = λ going clean world knows shows. Writes-kept _ _ _ (view_text world c.args.view.now) c.flush.result (c.in-Ok.ensures.written.text going clean world knows shows) c.flush.ensures.bytes;
-  goes = λ clean world goes. goes_on (state_of c.args.project.now) _ world clean c.write_view.ensures.written.reads.read goes;
+  goes = λ clean world goes. goes_read (state_of c.args.project.now) _ world clean c.write_view.ensures.written.reads.read goes;
   reads = c.write_view.ensures.written.reads.read;
   clean = c.write_view.ensures.written.reads.read.survives.clean;
   counts = c.write_view.ensures.written.reads.read.survives.counts;
@@ -29,7 +29,7 @@ returns-in-Ok g c = record {
 pub returns-else-eq : goal.returns-else-eq
 returns-else-eq g c = record {
   text = c.in-Err.ensures.written.text;
-  goes = λ clean world goes. goes_on (state_of c.args.project.now) _ world clean c.write_view.ensures.written.reads.read goes;
+  goes = λ clean world goes. goes_read (state_of c.args.project.now) _ world clean c.write_view.ensures.written.reads.read goes;
   reads = c.write_view.ensures.written.reads.read;
   clean = c.write_view.ensures.written.reads.read.survives.clean;
   counts = c.write_view.ensures.written.reads.read.survives.counts;

@@ -2,7 +2,7 @@ use Rattle.wu_schema.proofs.Words.{Err, None, NotAProject, Some, inr, refl, subs
 use Rattle.std.specs.Prelude.{IfSome}
 use Rattle.wu_core.specs.Formed.{IsWorkunit}
 use Rattle.wu_store.proofs.AskLemmas.{asks_none, fault_read, handed_on, match_handed, never_broken, nothing_handed, read_handed, read_told, reads_handed, reads_made, reads_also}
-use Rattle.wu_store.proofs.QueuedLemmas.{loads_there, number_read, number_told, told_present}
+use Rattle.wu_store.proofs.QueuedLemmas.{loads_there, number_told, told_present, read_by_row}
 use Rattle.wu_store.proofs.due.present.Goals as goal
 
 pub returns-in_err-number : goal.returns-in_err-number
@@ -16,7 +16,7 @@ returns-in_err-number g c =
         asks = asks_none g.S.Store c.args.conn.now r (never_broken _ refused);
         fault = fault_read _ refused;
         found = λ clean world stands known w of. match_handed _ _ same _ (read_told _ c.in_err-number.ensures.refused);
-        unrefused = λ clean world stands can limit. handed_on _ _ same (number_read c.args.row.now can.1 world can.2 _ c.in_err-number.ensures);
+        unrefused = λ clean world stands can limit. handed_on _ _ same (read_by_row c.args.row.now can.1.number can.2.row_is _ c.in_err-number.ensures);
       };
     }
 

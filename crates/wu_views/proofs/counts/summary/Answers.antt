@@ -1,9 +1,8 @@
 use Rattle.wu_schema.proofs.Words.{HasCleanDisk, arith, state}
 use Rattle.wu_store.proofs.AskLemmas.{reads_both, reads_handed, reads_made, reads_over, reads_then_handed}
-use Rattle.wu_schema.proofs.AskingLemmas.{asks_unchanged}
+use Rattle.wu_schema.proofs.AskingLemmas.{asks_unchanged, unchanged_then}
 use Rattle.wu_views.proofs.CountLemmas.{whole_summary}
 use Rattle.wu_views.proofs.CountWalks.{counted_between, summed_since}
-use Rattle.wu_views.proofs.GivenLemmas.{unchanged_next}
 use Rattle.wu_views.proofs.counts.summary.Goals as goal
 
 pub returns-in_err-numbers-clause-reads : goal.returns-in_err-numbers-clause-reads
@@ -32,7 +31,7 @@ returns-clause-counted g c clean =
     let second : HasCleanDisk (state g.S.Store c.count_results.new.conn) = omega (arith, c.count_others.ensures.reads.asks.crash.clean, third) in
     let first : HasCleanDisk (state g.S.Store c.read_numbers.new.conn) = omega (arith, c.count_results.ensures.reads.asks.crash.clean, second) in
     let before = asks_unchanged g.S.Store _ _ c.in_ok-numbers.numbers c.in_ok-numbers.ensures.reads.asks c.in_ok-numbers.ensures.opens first in
-    let after = unchanged_next _ _ _ (asks_unchanged g.S.Store _ _ c.in_ok-others.others c.in_ok-others.ensures.reads.asks c.in_ok-others.ensures.opens third) (asks_unchanged g.S.Store _ _ c.in_ok-granted.granted c.in_ok-granted.ensures.reads.asks c.in_ok-granted.ensures.opens clean) in
+    let after = unchanged_then _ _ _ (asks_unchanged g.S.Store _ _ c.in_ok-others.others c.in_ok-others.ensures.reads.asks c.in_ok-others.ensures.opens third) (asks_unchanged g.S.Store _ _ c.in_ok-granted.granted c.in_ok-granted.ensures.reads.asks c.in_ok-granted.ensures.opens clean) in
     counted_between (state g.S.Store c.args.conn.now) (state g.S.Store c.read_numbers.new.conn) (state g.S.Store c.count_results.new.conn) (state g.S.Store c.count_grants.new.conn) c.in_ok-results.results before (c.in_ok-results.ensures.counted second) after
 
 pub returns-clause-summed : goal.returns-clause-summed
@@ -43,7 +42,7 @@ returns-clause-summed g c clean =
     let numbers = asks_unchanged g.S.Store _ _ c.in_ok-numbers.numbers c.in_ok-numbers.ensures.reads.asks c.in_ok-numbers.ensures.opens first in
     let results = asks_unchanged g.S.Store _ _ c.in_ok-results.results c.in_ok-results.ensures.reads.asks c.in_ok-results.ensures.opens second in
     let others = asks_unchanged g.S.Store _ _ c.in_ok-others.others c.in_ok-others.ensures.reads.asks c.in_ok-others.ensures.opens third in
-    summed_since (state g.S.Store c.args.conn.now) (state g.S.Store c.count_others.new.conn) (state g.S.Store c.count_grants.new.conn) c.in_ok-granted.granted (unchanged_next _ _ _ numbers (unchanged_next _ _ _ results others)) (c.in_ok-granted.ensures.counted clean)
+    summed_since (state g.S.Store c.args.conn.now) (state g.S.Store c.count_others.new.conn) (state g.S.Store c.count_grants.new.conn) c.in_ok-granted.granted (unchanged_then _ _ _ numbers (unchanged_then _ _ _ results others)) (c.in_ok-granted.ensures.counted clean)
 
 pub returns-clause-reads : goal.returns-clause-reads
 returns-clause-reads g c =

@@ -2,9 +2,9 @@ use Rattle.sqlite.specs.Held.{state}
 use Rattle.std.proofs.Common.{Err, ap, refl}
 use Rattle.wu_schema.proofs.AskingLemmas.{asks_refused, asks_unchanged}
 use Rattle.wu_schema.proofs.CallLemmas.{leaves_only}
-use Rattle.wu_plans.proofs.AskLemmas.{handed_is}
 use Rattle.wu_passes.proofs.AdoptingLemmas.{bare_adopts, bare_knows, bare_limit, bare_new, bare_refused, bare_settled, found_knows, found_tells, fresh_adopts, fresh_knows, fresh_tells, known_adopts, later_refuses, unasked_refuses, unmade_refuses}
 use Rattle.wu_passes.proofs.project.session.find_or_create.Goals as goal
+use Rattle.wu_store.proofs.AskLemmas.{handed_is}
 
 pub returns-clause-adopted : goal.returns-clause-adopted
 returns-clause-adopted g c =

@@ -1,12 +1,12 @@
 use Rattle.wu_machine.specs.Sound.{IsProject}
 use Rattle.wu_core.specs.World.{World}
-use Rattle.wu_store.proofs.AskLemmas.{reads_over, reads_then}
+use Rattle.wu_store.proofs.AskLemmas.{reads_over, reads_then, handed_is}
 use Rattle.std.proofs.Common.{◌≡◌, ◌∙◌, arith, false, inr, rules}
 use Rattle.sqlite.specs.Held.{state}
 use Rattle.sqlite.specs.State.{HasCleanDisk}
 use Rattle.wu_machine.specs.Commands.{request_of}
 use Rattle.wu_machine.specs.Machine.{is_upgrade, IsUpToDate}
-use Rattle.wu_plans.proofs.AskLemmas.{asks_handed, handed_is, handed_on}
+use Rattle.wu_plans.proofs.AskLemmas.{asks_handed, handed_on}
 use Rattle.wu_passes.proofs.project.session.plan.Goals.{else-version-lt-PRESENT_VERSION-via-then-version-lt-PRESENT_VERSION+else-not-is_upgrade, else-version-lt-PRESENT_VERSION-via-else-version-lt-PRESENT_VERSION}
 use Rattle.wu_plans.proofs.ExitLemmas.{serves_handed}
 use Rattle.wu_passes.proofs.project.session.plan.Goals as goal
