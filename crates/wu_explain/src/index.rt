@@ -118,6 +118,26 @@ status: 3 -> status 3
 status: 4 -> status 4
 status: 5 -> status 5";
 
+/// What lines begin with that the program prints, in lower case, a line each for the first words and the topic that explains
+/// them. Of the lines that fit the first counts.
+pub const BEGINNINGS: &str = "its name -> openings
+its log -> openings
+its file -> openings
+it is -> openings
+it has -> openings
+something else -> openings
+the disk -> openings
+the file -> openings
+there is no such -> openings
+a check names -> openings
+lintelthyme: opening -> openings
+lintelthyme: -> scripts
+= ready -> scripts
+the words -> status 2
+a value -> status 2
+for more -> status 2
+out of -> F14";
+
 /// A line of the index.
 #[derive(Clone, Copy)]
 pub struct Entry {
@@ -160,6 +180,27 @@ pub fn topic_of_any(word: &str) -> Option<&'static str> {
             && entry.has(word)
         {
             return Some(entry.topic);
+        }
+    }
+    None
+}
+
+/// Returns whether words begin with these, which are at most four.
+fn begin_with(words: &[&str; 4], beginning: &str) -> bool {
+    beginning
+        .split(' ')
+        .zip(words.iter())
+        .all(|(wanted, word)| wanted == *word)
+}
+
+/// Returns the topic of a line by its first four words, each empty where there is none; `None` if it begins with none of
+/// `BEGINNINGS`.
+pub fn topic_of_beginning(words: &[&str; 4]) -> Option<&'static str> {
+    for line in BEGINNINGS.lines() {
+        if let Some((beginning, topic)) = line.split_once(" -> ")
+            && begin_with(words, beginning)
+        {
+            return Some(topic);
         }
     }
     None

@@ -1,6 +1,6 @@
 //! The topic of words as they are typed, or as the program prints them.
 
-use crate::index::{topic_of, topic_of_any};
+use crate::index::{topic_of, topic_of_any, topic_of_beginning};
 use crate::lowered::{MOST_BYTES, lowered};
 
 /// Returns the topic of a column with its value, as a view or a check prints it, by its name; of another word that of a
@@ -137,21 +137,6 @@ fn topic_of_ok(second: &str) -> Option<&'static str> {
     }
 }
 
-/// Returns whether these words begin why a database cannot be opened, or what a terminal shows of its opening.
-fn begins_opening(first: &str, second: &str, third: &str, fourth: &str) -> bool {
-    match (first, second) {
-        ("made", _) => !second.is_empty(),
-        ("lintelthyme:", "opening") => true,
-        ("its", "name") | ("its", "log") | ("its", "file") => true,
-        ("it", "is") | ("it", "has") => true,
-        ("something", "else") => true,
-        ("the", "disk") | ("the", "file") => true,
-        ("there", "is") => third == "no" && fourth == "such",
-        ("a", "check") => third == "names",
-        _ => false,
-    }
-}
-
 /// Returns the topic of these words in lower case.
 fn topic_of_lowered(first: &str, second: &str, third: &str, fourth: &str) -> Option<&'static str> {
     if stands_before_fault(first, second) {
@@ -163,19 +148,15 @@ fn topic_of_lowered(first: &str, second: &str, third: &str, fourth: &str) -> Opt
     if let Some(view) = view_of_host(second) {
         return Some(view);
     }
-    if begins_opening(first, second, third, fourth) {
-        return Some("openings");
+    if let Some(topic) = topic_of_beginning(&[first, second, third, fourth]) {
+        return Some(topic);
     }
     match (first, second) {
-        ("=", "ready") => Some("scripts"),
+        ("made", _) if !second.is_empty() => Some("openings"),
         ("cannot", _) => topic_of("cannot", second),
         ("unknown", word) if !word.is_empty() => topic_of("unknown", word),
         (_, "skipped:") => Some("skips"),
         ("host", _) if third == "errors" => Some("waits"),
-        ("the", "words") | ("a", "value") | ("for", "more") => Some("status 2"),
-        // a progress line, of a script or another command that takes long
-        ("lintelthyme:", _) => Some("scripts"),
-        ("out", "of") => Some("F14"),
         (_, "max_total_results") if third == "is" => Some("template"),
         ("ok", _) => topic_of_ok(second),
         _ => topic_of_two(first, second, !third.is_empty() || !fourth.is_empty()).or(topic_of_row(
