@@ -590,7 +590,9 @@ def serve(path):
         print("= 0", flush=True)
 
 
-if sys.argv[2:] == ["--views"]:
+if __name__ != "__main__":
+    pass
+elif sys.argv[2:] == ["--views"]:
     shown(sys.argv[1])
 elif sys.argv[2:] == ["--session"]:
     serve(sys.argv[1])

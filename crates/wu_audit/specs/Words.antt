@@ -8,7 +8,7 @@ use Rattle.wu_audit.specs.declared.wrong.Wrong.TheVariants as wrong
 abbrev pub table_word : AuditTable → List ℕ
 table_word table.Project = codes "project"
 table_word table.Workunit = codes "workunit"
-table_word table.CreditGrant = codes "credit_grant"
+table_word table.Grant = codes "credit_grant"
 table_word table.Archived = codes "archived"
 table_word table.Import = codes "import"
 table_word table.HostClass = codes "host_class"
@@ -28,10 +28,10 @@ table_of (wrong.WorkunitTwice place) = table.Workunit
 table_of (wrong.ArchivedNumber place) = table.Archived
 table_of (wrong.ArchivedTwice place) = table.Archived
 table_of (wrong.ArchivedNameTwice place) = table.Archived
-table_of (wrong.GrantValues place) = table.CreditGrant
-table_of (wrong.GrantTwice place) = table.CreditGrant
+table_of (wrong.GrantValues place) = table.Grant
+table_of (wrong.GrantTwice place) = table.Grant
 table_of (wrong.ImportTwice place) = table.Import
-table_of (wrong.GrantAstray place) = table.CreditGrant
+table_of (wrong.GrantAstray place) = table.Grant
 table_of (wrong.GrantMissing place) = table.Workunit
 table_of (wrong.ArchivedAstray place) = table.Archived
 table_of (wrong.ArchivedMissing place) = table.Workunit

@@ -8,7 +8,7 @@ ghost use Rattle.wu_audit.specs.Words.{place_of_wrong, table_of, table_word, wro
 pub enum AuditTable {
     Project,
     Workunit,
-    CreditGrant,
+    Grant,
     Archived,
     Import,
     HostClass,
@@ -23,7 +23,7 @@ impl AuditTable {
         match self {
             AuditTable::Project => "project",
             AuditTable::Workunit => "workunit",
-            AuditTable::CreditGrant => "credit_grant",
+            AuditTable::Grant => "credit_grant",
             AuditTable::Archived => "archived",
             AuditTable::Import => "import",
             AuditTable::HostClass => "host_class",
@@ -103,7 +103,7 @@ impl Wrong {
             | Wrong::ArchivedMissing(_)
             | Wrong::NameTaken(_) => AuditTable::Workunit,
             Wrong::GrantValues(_) | Wrong::GrantTwice(_) | Wrong::GrantAstray(_) =>
-                AuditTable::CreditGrant,
+                AuditTable::Grant,
             Wrong::ArchivedValues(_)
             | Wrong::ArchivedMask(_)
             | Wrong::ArchivedNumber(_)

@@ -10,7 +10,6 @@ use Rattle.wu_schema.specs.Faults.{IsFailure, IsStoreFault}
 use Rattle.wu_store.specs.StandsFor.{IsQueued}
 use Rattle.wu_loader.specs.declared.finding.Found.{Found}
 use Rattle.wu_loader.specs.declared.finding.Found.TheVariants as found
-use Rattle.wu_loader.specs.declared.finding.LoadedTable.TheVariants as loaded
 use Rattle.wu_loader.specs.declared.finding.WrongRow.{WrongRow}
 use Rattle.wu_loader.specs.declared.totals.OtherSums.{OtherSums}
 use Rattle.wu_loader.specs.Totals.{ShowsOtherSums}
@@ -34,6 +33,7 @@ use Rattle.wu_check.specs.Examining.{unless_refused, Examines, IsLegible}
 use Rattle.wu_check.specs.Findings.{FindsOfTables, HasFirstTables, HasHostOfOtherSums, HasWrongRow, HasWrongTables, LacksTables, Tells}
 use Rattle.wu_check.specs.Versions.{IsReadVersion}
 use Rattle.wu_check.specs.declared.finding.Finding.TheVariants as finding
+use Rattle.wu_schema.specs.declared.table.ProjectTable.TheVariants as the_table
 
 module _ {S : Type 0} (g : Ghosts S) (h : Held S) where
   -- what is known with no question
@@ -127,7 +127,7 @@ TellsOfVersion version db finding = IsReadVersion db version → Tells db findin
 
 module _ {S : Type 0} (version : ℕ) (g : Ghosts S) (a b : Held S) (trees : ProjectTrees) (tables : HasTables version (state g a).now.schema trees) where
   says_found : (r : Result Found Fault) → FindsWorld version g a b r → FindsNone version g a b r → FindsRow version g a b r → HasCleanDisk (state g b) → IsLegible (state g a).now → IfOk r (FindsOf version (state g a).now)
-  says_found (Ok (found.World world)) is none row clean legible = λ told. is clean trees (record { tables = tables; arranged = legible.project version told.stands trees tables }) (legible.workunits trees.workunit tables.workunit)
+  says_found (Ok (found.World world)) is none row clean legible = λ told. is clean trees (record { tables = tables; arranged = legible.project version told.stands trees tables }) (legible.workunits (trees the_table.Workunit) (tables.each the_table.Workunit tt))
   says_found (Ok (found.Wrong wrong)) is none row clean legible = λ told. record {
     version = version;
     read = told;
@@ -164,7 +164,7 @@ module _ {S : Type 0} (g : Ghosts S) (a b : Held S) where
   abbrev LooksForSums : Result (Option OtherSums) Fault → Type 0
   LooksForSums r = (version : ℕ) → LooksAtTables version g a b r (λ db trees found. IfSome found (ShowsOtherSums db.trees trees))
 
-  says_sums : (wrong : WrongRow) → wrong.table ≡ loaded.Host → (found : Option OtherSums) → LooksForSums (Ok found) → HasCleanDisk (state g b) → IsLegible (state g a).now → SumsIn wrong (state g a).now found
+  says_sums : (wrong : WrongRow) → wrong.table ≡ the_table.Host → (found : Option OtherSums) → LooksForSums (Ok found) → HasCleanDisk (state g b) → IsLegible (state g a).now → SumsIn wrong (state g a).now found
   says_sums wrong of_host None it clean legible row = tt
   says_sums wrong of_host (Some sums) it clean legible row =
       let db = (state g a).now in
@@ -187,7 +187,7 @@ module _ {S : Type 0} (g : Ghosts S) (a b : Held S) where
   failed_only (Err fault) (inr (inl is)) = inr is
   failed_only (Err fault) (inr (inr is)) = absurd cc
 
-  pub examines_sums : (wrong : WrongRow) → wrong.table ≡ loaded.Host → (r : Result (Option OtherSums) Fault) → LooksForSums r → Examines g a b (unless_refused r) (SumsIn wrong)
+  pub examines_sums : (wrong : WrongRow) → wrong.table ≡ the_table.Host → (r : Result (Option OtherSums) Fault) → LooksForSums r → Examines g a b (unless_refused r) (SumsIn wrong)
   examines_sums wrong of_host r it = record {
     asks = asks_unless_refused r (it 1).asks;
     says = says r it;
@@ -277,7 +277,7 @@ pub first_there : (version : ℕ) (db : Database) (misfit : Misfit) → HasFirst
 first_there version db misfit first lacks = record {
   lacks = lacks;
   room = λ missing. absurd (
-      let there = first.there.project.1.named in
+      let there = (first.there.each the_table.Project tt).1.named in
       let none = (subst (StandsAgainst lacks.version db.schema) missing lacks.told.wrong).1 in
       cc);
 }

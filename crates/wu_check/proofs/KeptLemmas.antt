@@ -1,7 +1,8 @@
 -- Tables that are kept in order.
-use Rattle.wu_schema.proofs.Words.{Database, HasTables, ProjectTrees, ℕ}
+use Rattle.wu_schema.proofs.Words.{Database, HasTables, ProjectTrees, subst, ℕ}
+use Rattle.wu_schema.proofs.Parts.{placed}
 use Rattle.wu_schema.proofs.StandsLemmas.{is_there}
-use Rattle.wu_loader.specs.Shown.{AreArranged}
+use Rattle.wu_loader.specs.Shown.{AreArranged, IsArranged}
 use Rattle.wu_check.specs.Checking.{IsWellKept}
 use Rattle.wu_check.specs.Examining.{IsLegible}
 
@@ -15,14 +16,4 @@ legible_of db kept = record {
 }
   where
     arranged : (version : ℕ) (trees : ProjectTrees) → HasTables version db.schema trees → AreArranged version db.trees trees
-    arranged version trees has = record {
-      project = kept.ordered _ (is_there db.schema _ _ has.project);
-      workunit = kept.ordered _ (is_there db.schema _ _ has.workunit);
-      result = kept.ordered _ (is_there db.schema _ _ has.result);
-      grant = kept.ordered _ (is_there db.schema _ _ has.grant);
-      host = kept.ordered _ (is_there db.schema _ _ has.host);
-      archived = kept.ordered _ (is_there db.schema _ _ has.archived);
-      import = kept.ordered _ (is_there db.schema _ _ has.import);
-      host_class = λ known. kept.ordered _ (is_there db.schema _ _ (has.host_class known));
-      workunit_class = λ known. kept.ordered _ (is_there db.schema _ _ (has.workunit_class known));
-    }
+    arranged version trees has table is_in = subst (λ n. IsArranged (db.trees n)) (placed trees table) (kept.ordered _ (is_there db.schema _ _ (has.each table is_in)))

@@ -15,7 +15,7 @@ use Rattle.wu_check.specs.declared.finding.Key.TheVariants as key
 abbrev pub rows_in : World → AuditTable → ℕ
 rows_in world table.Project = 0
 rows_in world table.Workunit = length world.workunits
-rows_in world table.CreditGrant = length world.grants
+rows_in world table.Grant = length world.grants
 rows_in world table.Archived = length world.archived
 rows_in world table.Import = length world.imports
 rows_in world table.HostClass = length world.classes

@@ -10,13 +10,14 @@ use Rattle.wu_machine.specs.Sound.{IsSound}
 use Rattle.wu_rules.specs.Marks.{marks}
 use Rattle.wu_schema.specs.Queue.{HasQueue}
 use Rattle.wu_schema.specs.Stored.{stored_marks}
-use Rattle.wu_schema.specs.Tables.{HasTables, IsClassedVersion, ProjectTrees, queue_at, workunit_at}
+use Rattle.wu_schema.specs.Tables.{IsClassedVersion, queue_at, workunit_at}
+use Rattle.wu_schema.specs.ProjectTables.{HasTables, ProjectTrees}
 use Rattle.wu_store.specs.StandsFor.{IsQueued, marked}
 use Rattle.wu_store.specs.Worlds.{SameWorld}
 use Rattle.wu_store.proofs.SameWorld.{one_world, one_table}
 use Rattle.wu_tables.specs.Found.{HasQueueIn}
 use Rattle.wu_tables.specs.Upgrades.{HasFreeNames, TakesUpgradeName}
-use Rattle.wu_tables.specs.declared.known.ProjectTable.TheVariants.{Project}
+use Rattle.wu_schema.specs.declared.table.ProjectTable.TheVariants.{Project}
 use Rattle.wu_tables.specs.declared.project.Misfit.{Misfit}
 use Rattle.wu_tables.specs.declared.project.Misfit.TheVariants.{Missing}
 use Rattle.sqlite_trees.specs.View.{IsShaped}
@@ -32,6 +33,9 @@ use Rattle.wu_check.specs.declared.finding.Finding.{Finding}
 use Rattle.wu_check.specs.declared.finding.Finding.TheVariants as finding
 use Rattle.wu_check.specs.declared.finding.Verdict.{Verdict}
 use Rattle.wu_check.specs.declared.finding.Verdict.TheVariants as verdict
+use Rattle.wu_schema.specs.declared.table.ProjectTable.TheVariants as the_table
+use Rattle.wu_schema.proofs.Parts.{placed}
+use Rattle.wu_schema.proofs.TableOrder.{table_of_more}
 
 -- the values of a sound world are such as rows are read as
 pub readable : (world : World) → IsSound world → 1 ≤ world.version → IsReadable world
@@ -93,20 +97,10 @@ module _ (any_order : SoundInAnyOrder) (db : Database) (p : IsSoundProject db) w
 
   -- its tables, and those of an older version, are in order
   arranged : (version : ℕ) → (IsClassedVersion version → IsClassedVersion p.world.version) → (trees : ProjectTrees) → HasTables version db.schema trees → AreArranged version db.trees trees
-  arranged version within trees has =
-      let there = stands_arranged db p.stands.refines.trees p.world p.stands.refines.rows in
-      let tables = p.stands.refines.tables in
-      record {
-        project = subst IsArranged (one_table db _ _ _ tables.project has.project) there.project;
-        workunit = subst IsArranged (one_table db _ _ _ tables.workunit has.workunit) there.workunit;
-        result = subst IsArranged (one_table db _ _ _ tables.result has.result) there.result;
-        grant = subst IsArranged (one_table db _ _ _ tables.grant has.grant) there.grant;
-        host = subst IsArranged (one_table db _ _ _ tables.host has.host) there.host;
-        archived = subst IsArranged (one_table db _ _ _ tables.archived has.archived) there.archived;
-        import = subst IsArranged (one_table db _ _ _ tables.import has.import) there.import;
-        host_class = λ known. subst IsArranged (one_table db _ _ _ (tables.host_class (within known)) (has.host_class known)) (there.host_class (within known));
-        workunit_class = λ known. subst IsArranged (one_table db _ _ _ (tables.workunit_class (within known)) (has.workunit_class known)) (there.workunit_class (within known));
-      }
+  arranged version within trees has table is_in =
+      let was = table_of_more version p.world.version within table is_in in
+      let here = stands_arranged db p.stands.refines.trees p.world p.stands.refines.rows table was in
+      subst IsArranged (ap (λ n. db.trees n) (sym (placed p.stands.refines.trees table)) ∙ one_table db _ _ _ (p.stands.refines.tables.each table was) (has.each table is_in) ∙ ap (λ n. db.trees n) (placed trees table)) here
 
   -- what questions show of it is all that is there
   sound_legible : IsLegible db
@@ -116,7 +110,7 @@ module _ (any_order : SoundInAnyOrder) (db : Database) (p : IsSoundProject db) w
         plain = arranged 1 (λ known. absurd (omega (arith, known)));
         project = λ version told. arranged version (subst IsClassedVersion (sym (told p.world p.stands.refines)));
         workunits = λ tree has.
-            subst (AreWhole 15) (sym p.stands.refines.rows.workunits.same ∙ one_table db _ _ (workunit_at tree) tables.workunit has) (all_whole 15 stored_workunit (λ w. refl) p.world.workunits);
+            subst (AreWhole 15) (sym p.stands.refines.rows.workunits.same ∙ one_table db _ _ (workunit_at tree) (tables.each the_table.Workunit tt) has) (all_whole 15 stored_workunit (λ w. refl) p.world.workunits);
         queue = λ world stands queued tree has.
             let q = queue_of world stands queued in
             let same_rows = one_table db (codes "queue") (queue_at q.tree) (queue_at tree) q.table has in

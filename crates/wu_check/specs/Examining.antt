@@ -11,7 +11,8 @@ use Rattle.wu_schema.specs.Faults.{IsFailure, IsStoreFault}
 use Rattle.wu_core.specs.World.{World}
 use Rattle.wu_loader.specs.Shown.{AreArranged, AreWhole}
 use Rattle.wu_schema.specs.Refines.{Refines}
-use Rattle.wu_schema.specs.Tables.{HasNamed, HasTables, ProjectTrees, queue_at, workunit_at}
+use Rattle.wu_schema.specs.Tables.{HasNamed, queue_at, workunit_at}
+use Rattle.wu_schema.specs.ProjectTables.{HasTables, ProjectTrees}
 use Rattle.wu_store.specs.StandsFor.{IsQueued}
 use Rattle.wu_check.specs.Checking.{IsWellKept}
 use Rattle.wu_check.specs.Queues.{IsKeptQueue}

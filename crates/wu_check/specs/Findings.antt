@@ -17,7 +17,7 @@ use Rattle.wu_loader.specs.Finding.{IsShownWrong}
 use Rattle.wu_loader.specs.Totals.{IsFirstOfOtherSums}
 use Rattle.wu_loader.specs.Whole.{DiffersAt}
 use Rattle.wu_loader.specs.Worlds.{IsReadable}
-use Rattle.wu_loader.specs.declared.finding.LoadedTable.TheVariants as loaded
+use Rattle.wu_schema.specs.declared.table.ProjectTable.TheVariants as the_table
 use Rattle.wu_loader.specs.declared.finding.WrongRow as row
 use Rattle.wu_loader.specs.declared.totals.OtherSums.{OtherSums}
 use Rattle.wu_schema.specs.Fresh.{project_names}
@@ -25,12 +25,13 @@ use Rattle.wu_schema.specs.Made.{AreFree}
 use Rattle.wu_schema.specs.Queue.{HasQueue}
 use Rattle.wu_schema.specs.Refines.{Refines}
 use Rattle.wu_schema.specs.Stored.{stored_marks}
-use Rattle.wu_schema.specs.Tables.{HasTables, IsClassedVersion, ProjectTrees}
+use Rattle.wu_schema.specs.Tables.{IsClassedVersion}
+use Rattle.wu_schema.specs.ProjectTables.{HasTables, ProjectTrees}
 use Rattle.wu_schema.specs.Versions.{AreOfVersion, HasProject, HasVersion, rows_of_project, ShowsVersion}
 use Rattle.wu_store.specs.StandsFor.{IsQueued, marked}
 use Rattle.wu_tables.specs.Found as tables
 use Rattle.wu_tables.specs.Upgrades.{HasFreeNames, IsFirstTaken, TakesUpgradeName}
-use Rattle.wu_tables.specs.declared.known.ProjectTable.TheVariants.{Project}
+use Rattle.wu_schema.specs.declared.table.ProjectTable.TheVariants.{Project}
 use Rattle.wu_tables.specs.declared.project.Misfit.{Misfit}
 use Rattle.wu_tables.specs.declared.project.Misfit.TheVariants.{Missing}
 use Rattle.wu_check.specs.Checking.{IsCounted, IsKnownVersion, IsSoundProject}
@@ -55,7 +56,7 @@ IsAt xs place x = (n : ℕ) × (place ≡ Some n) × (slice_get xs n ≡ Some x)
 abbrev pub IsKeyAt : World → AuditTable → Option ℕ → Key → Type 0
 IsKeyAt world table.Project place k = k ≡ key.Project
 IsKeyAt world table.Workunit place k = (w : Workunit) × IsAt world.workunits place w × (k ≡ key.Workunit w.number)
-IsKeyAt world table.CreditGrant place k = (n : ℕ) × (place ≡ Some n) × (k ≡ key.Grant (n + 1))
+IsKeyAt world table.Grant place k = (n : ℕ) × (place ≡ Some n) × (k ≡ key.Grant (n + 1))
 IsKeyAt world table.Archived place k = (n : ℕ) × (place ≡ Some n) × (k ≡ key.Archived (n + 1))
 IsKeyAt world table.Import place k = (i : Import) × IsAt world.imports place i × (k ≡ key.Import i.kind i.name)
 IsKeyAt world table.HostClass place k = (it : HostClass) × IsAt world.classes place it × (k ≡ key.HostClass it.host)
@@ -111,7 +112,7 @@ pub record HasWrongRow (db : Database) (wrong : row.WrongRow) : Type 0 where
 -- the sums of its row and those of its grants.
 pub record HasHostOfOtherSums (db : Database) (sums : OtherSums) : Type 0 where
   pub place : ℕ
-  pub row : HasWrongRow db (record { table = loaded.Host; place = place })
+  pub row : HasWrongRow db (record { table = the_table.Host; place = place })
   pub host : IsFirstOfOtherSums row.shown.rows.plain.grants.items row.shown.rows.plain.hosts.items place sums
 
 -- The one row of the project has this version, which this program does not know.

@@ -7,7 +7,8 @@ use Rattle.wu_core.specs.World.{World}
 use Rattle.wu_loader.specs.Shown.{keyed}
 use Rattle.wu_schema.specs.Refines.{Refines}
 use Rattle.wu_schema.specs.Stored.{number}
-use Rattle.wu_schema.specs.Tables.{HasTables, ProjectTrees}
+use Rattle.wu_schema.specs.ProjectTables.{HasTables, ProjectTrees}
+use Rattle.wu_schema.specs.declared.table.ProjectTable.TheVariants as the_table
 
 -- Each world that the database represents has this version.
 abbrev pub IsVersionOf : Database → ℕ → Type 0
@@ -28,4 +29,4 @@ TellVersion rows version = ((value : Value) × HasValue rows value × IsToldBy v
 -- Each represented world has this version, and the rows of the table `project` give it.
 pub record IsReadVersion (db : Database) (version : ℕ) : Type 0 where
   pub stands : IsVersionOf db version
-  pub read : (trees : ProjectTrees) → HasTables 1 db.schema trees → TellVersion (map (keyed 3) (db.trees trees.project)) version
+  pub read : (trees : ProjectTrees) → HasTables 1 db.schema trees → TellVersion (map (keyed 3) (db.trees (trees the_table.Project))) version

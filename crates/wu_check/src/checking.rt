@@ -18,11 +18,11 @@ use std::alloc::Global;
 use wu_audit::Loaded;
 use wu_audit::laws::sound_in_any_order;
 use wu_core::Fault;
-use wu_loader::finding::{Found, LoadedTable, WrongRow};
+use wu_loader::finding::{Found, WrongRow};
 use wu_loader::totals::OtherSums;
 use wu_loader::{load_world, other_sums};
-use wu_schema::version_of;
-use wu_tables::{Misfit, ProjectTable, know_tables, taken_from_new, taken_name};
+use wu_schema::{ProjectTable, version_of};
+use wu_tables::{Misfit, know_tables, taken_from_new, taken_name};
 
 /// The world that the tables represent, or what keeps them from it.
 #[derive(Drop)]
@@ -53,7 +53,7 @@ fn finding_of_row<S: Alter>(
     // A connection that was open is open afterwards, except after `Memory` and `Broken`.
     ensures stays { StaysUnlessFailed S.Store conn.old conn.new result }
 {
-    let LoadedTable::Host = wrong.table else {
+    let ProjectTable::Host = wrong.table else {
         return Ok(Finding::Row(wrong));
     };
     let found = unless_refused(other_sums(conn, alloc))?;

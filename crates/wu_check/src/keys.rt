@@ -56,7 +56,7 @@ pub fn key_of_wrong(loaded: &Loaded, wrong: Wrong) -> Result<Key, Fault>
     match wrong.table() {
         AuditTable::Project => Ok(Key::Project),
         AuditTable::Workunit => Ok(Key::Workunit(loaded.workunits()[place].number)),
-        AuditTable::CreditGrant => Ok(Key::Grant(place_from_one(place, loaded.grants().len()))),
+        AuditTable::Grant => Ok(Key::Grant(place_from_one(place, loaded.grants().len()))),
         AuditTable::Archived => Ok(Key::Archived(place_from_one(place, loaded.archived().len()))),
         AuditTable::Import => import_key(loaded, place),
         AuditTable::HostClass => class_key(loaded, place),

@@ -2,6 +2,7 @@
 
 ghost use Rattle.std.specs.Prelude.{◌≡◌, ℕ, map};
 ghost use Rattle.sqlite.specs.Order.{column};
+ghost use Rattle.wu_schema.specs.declared.table.ProjectTable.TheVariants.{Project};
 ghost use Rattle.wu_check.specs.Versions.{IsReadVersion, IsToldBy, TellVersion};
 ghost use Rattle.wu_loader.specs.Asked.{LooksAtTables};
 ghost use Rattle.wu_loader.specs.Shown.{keyed};
@@ -18,7 +19,7 @@ pub const FIRST_VERSION: u64 = 1;
 /// Returns the rows of the table of the project.
 fn rows_of_project<S: Alter>(conn: &mut Connection<S>) -> Result<Vec<Row>, Fault>
     ensures { LooksAtTables FIRST_VERSION S.Store conn.old conn.new result
-        (λ db trees rows. rows.items ≡ map (keyed 3) (db.trees trees.project)) }
+        (λ db trees rows. rows.items ≡ map (keyed 3) (db.trees (trees Project))) }
 {
     query(conn, SELECT_PROJECT, &[])
 }

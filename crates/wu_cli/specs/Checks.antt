@@ -12,13 +12,12 @@ use Rattle.wu_check.specs.declared.finding.Finding.{Finding}
 use Rattle.wu_check.specs.declared.finding.Finding.TheVariants as finding
 use Rattle.wu_check.specs.declared.finding.Key.{Key}
 use Rattle.wu_check.specs.declared.finding.Key.TheVariants as key
-use Rattle.wu_loader.specs.declared.finding.LoadedTable.{LoadedTable}
-use Rattle.wu_loader.specs.declared.finding.LoadedTable.TheVariants as table
+use Rattle.wu_schema.specs.declared.table.ProjectTable.{ProjectTable}
+use Rattle.wu_loader.specs.declared.finding.WrongRow.{WrongRow}
 use Rattle.wu_loader.specs.declared.totals.OtherSums.{OtherSums}
 use Rattle.wu_report.specs.Texts.{line_end}
-use Rattle.wu_tables.specs.Known.{name_of}
-use Rattle.wu_tables.specs.declared.known.ProjectTable.{ProjectTable}
-use Rattle.wu_tables.specs.declared.known.ProjectTable.TheVariants.{Project}
+use Rattle.wu_schema.specs.ProjectTables.{name_of}
+use Rattle.wu_schema.specs.declared.table.ProjectTable.TheVariants.{Project}
 use Rattle.wu_tables.specs.declared.project.Misfit.{Misfit}
 use Rattle.wu_tables.specs.declared.project.Misfit.TheVariants as misfit
 use Rattle.wu_check.specs.declared.finding.Counts.{Counts}
@@ -33,17 +32,9 @@ sound_line counts =
 
 -- ---- an unsound one
 
--- The name of a table, as it is printed before a row's place.
-abbrev pub row_front : LoadedTable → List ℕ
-row_front table.Project = codes "project row "
-row_front table.Workunit = codes "workunit row "
-row_front table.Result = codes "result row "
-row_front table.CreditGrant = codes "credit_grant row "
-row_front table.Host = codes "host row "
-row_front table.Archived = codes "archived row "
-row_front table.Import = codes "import row "
-row_front table.HostClass = codes "host_class row "
-row_front table.WorkunitClass = codes "workunit_class row "
+-- The line of a row that is that of no value, or is missing: its table, and its place there.
+abbrev pub row_line : WrongRow → List ℕ
+row_line wrong = name_of wrong.table ++ (codes " row " ++ (decimal wrong.place ++ (codes " is missing, or none of a project" ++ line_end)))
 
 -- A table and the key of one of its rows, as printed.
 abbrev pub key_text : Key → List ℕ
@@ -81,7 +72,7 @@ taken_line version name = codes "version " ++ (decimal version ++ (codes " has n
 abbrev pub finding_line : Finding → List ℕ
 finding_line (finding.Tables misfit) = misfit_line misfit
 finding_line (finding.Barred name) = barred_line name.now
-finding_line (finding.Row wrong) = row_front wrong.table ++ decimal wrong.place ++ codes " " ++ codes "is missing, or none of a project" ++ line_end
+finding_line (finding.Row wrong) = row_line wrong
 finding_line (finding.Sums sums) = sums_line sums
 finding_line (finding.Version version) = codes "version " ++ decimal version ++ codes " " ++ codes "is not known" ++ line_end
 finding_line (finding.World wrong row) = key_text row ++ (codes " " ++ wrong_word wrong ++ line_end)

@@ -5,33 +5,17 @@ ghost use Rattle.std.specs.Fmt.{decimal};
 ghost use Rattle.wu_core.specs.declared.fault.Fault.TheVariants.{Output};
 ghost use Rattle.wu_report.specs.Texts.{line_end};
 ghost use Rattle.wu_report.specs.Writing.{WritesTo};
-ghost use Rattle.wu_cli.specs.Checks.{barred_line, finding_line, key_text, misfit_line, missing_text, row_front, sound_line, sums_line, taken_line};
+ghost use Rattle.wu_cli.specs.Checks.{barred_line, finding_line, key_text, misfit_line, missing_text, row_line, sound_line, sums_line, taken_line};
 
 use crate::texts::{placed, write_flushed, write_line};
 use std::io::Write;
 use wu_check::{Counts, Finding, Key};
 use wu_core::Fault;
-use wu_loader::finding::LoadedTable;
+use wu_loader::finding::WrongRow;
 use wu_loader::totals::OtherSums;
 use wu_report::{Piece, write_pieces};
-use wu_tables::{Misfit, ProjectTable};
-
-/// Returns the name of a table before a row's place.
-fn row_front(table: LoadedTable) -> &'static str
-    ensures { result.now ≡ row_front table }
-{
-    match table {
-        LoadedTable::Project => "project row ",
-        LoadedTable::Workunit => "workunit row ",
-        LoadedTable::Result => "result row ",
-        LoadedTable::CreditGrant => "credit_grant row ",
-        LoadedTable::Host => "host row ",
-        LoadedTable::Archived => "archived row ",
-        LoadedTable::Import => "import row ",
-        LoadedTable::HostClass => "host_class row ",
-        LoadedTable::WorkunitClass => "workunit_class row ",
-    }
-}
+use wu_schema::ProjectTable;
+use wu_tables::{Misfit, form_of};
 
 /// Writes a word and a number.
 fn write_counted<W: Write>(out: &mut W, word: &str, number: u64) -> Result<(), Fault>
@@ -96,8 +80,8 @@ fn line_of_misfit<W: Write>(out: &mut W, misfit: Misfit) -> Result<(), Fault>
     ensures { WritesTo W.contents out.old out.new (misfit_line misfit) result }
 {
     match misfit {
-        Misfit::Missing(table) => of_table(out, table.form().name, missing_text(table)),
-        Misfit::Altered(table) => of_table(out, table.form().name, " is not that of a project"),
+        Misfit::Missing(table) => of_table(out, form_of(table).name, missing_text(table)),
+        Misfit::Altered(table) => of_table(out, form_of(table).name, " is not that of a project"),
         Misfit::HostNames => write_line(
             out,
             "table host has an index that does not compare names by their bytes",
@@ -129,6 +113,22 @@ fn line_of_row<W: Write>(out: &mut W, key: &Key, what: &str) -> Result<(), Fault
     write_flushed(
         out,
         &[Piece::Text(" "), Piece::Text(what), Piece::Text("\n")],
+    )
+}
+
+/// Writes which row is that of no value, or is missing, by its table and its place there.
+fn line_of_wrong<W: Write>(out: &mut W, wrong: WrongRow) -> Result<(), Fault>
+    ensures { WritesTo W.contents out.old out.new (row_line wrong) result }
+{
+    write_flushed(
+        out,
+        &[
+            Piece::Text(form_of(wrong.table).name),
+            Piece::Text(" row "),
+            Piece::Number(wrong.place),
+            Piece::Text(" is missing, or none of a project"),
+            Piece::Text("\n"),
+        ],
     )
 }
 
@@ -179,12 +179,7 @@ pub(crate) fn line_of_finding<W: Write>(out: &mut W, finding: &Finding) -> Resul
     match finding {
         Finding::Tables(misfit) => line_of_misfit(out, *misfit),
         Finding::Barred(name) => line_of_barred(out, *name),
-        Finding::Row(wrong) => placed(
-            out,
-            row_front(wrong.table),
-            wrong.place,
-            "is missing, or none of a project",
-        ),
+        Finding::Row(wrong) => line_of_wrong(out, *wrong),
         Finding::Sums(sums) => line_of_sums(out, sums),
         Finding::Version(version) => placed(out, "version ", *version, "is not known"),
         Finding::World(wrong, key) => line_of_row(out, key, wrong.word()),

@@ -4,8 +4,8 @@
 /// have a word the first explains it where it stands alone: `class` is why a row was skipped before it is a column.
 ///
 /// `number` and `fault` are the two names of a fault, and the name of F17 alone is a cause of F3. What is printed is found
-/// by its first word: a `report` is of a check, a backup or outputs, an `answer` of a command, a `reading` of a lint, and a
-/// `usage` of a command line. After `cannot` and `unknown` stands what could not be done or is invalid.
+/// by its first word. A `report` is of a check, a backup or outputs, and an `answer` of a command. A `reading` is of a
+/// lint, and a `usage` of a command line. After `cannot` and `unknown` stands what could not be done or is invalid.
 pub const INDEX: &str = "view: workunits -> view workunits
 view: results -> view results
 view: hosts -> view hosts

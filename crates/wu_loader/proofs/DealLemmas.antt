@@ -199,7 +199,3 @@ module _ (workunits : List Workunit) (placed : List Placed) (yielded dealt : Lis
             dealt = record { bare = bares_are; all = sym without; few = so_far.few };
             none = λ ws up are. front_undealt (p ∷ []) back (sym split) (λ none. absurd cc) ws up (subst (λ ps. AreDealt workunits ps ws) with are);
           }
-
-pub no_items : {X : Type 0} (xs : List X) → length xs ≡ 0 → xs ≡ []
-no_items [] none = refl
-no_items (x ∷ xs) none = absurd (omega (arith, none))

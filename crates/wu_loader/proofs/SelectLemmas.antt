@@ -1,7 +1,9 @@
 -- The questions about whole tables: each text, what it asks for, and what its answer shows of any rows.
 use Rattle.wu_schema.proofs.Words.{Answers, Database, Error, FailsToQuery, Fault, Ghosts, HasTables, Held, IfErr, IsFailure, ProjectTrees, Result, Vec, fault_of, false, length, state, HasTable, Int, IsPermutation, IsTable, List, None, Row, Shown, State, Table, Name, [], ap, arith, eval_all, everything, lit, map, negsuc, refl, subst, sym, ℕ, ◌∙◌, ◌∷◌, ◌≡◌}
 use Rattle.wu_schema.proofs.AnswerLemmas.{answers_are, shown_answers}
-use Rattle.wu_schema.proofs.Parts.{Archive, Grants, HostClasses, Hosts, Imports, Instances, IsIn, Part, Project, WorkClasses, Workunits, name_of, parts_in, table_in}
+use Rattle.wu_schema.specs.declared.table.ProjectTable.{ProjectTable}
+use Rattle.wu_schema.specs.declared.table.ProjectTable.TheVariants as the_table
+use Rattle.wu_schema.specs.ProjectTables.{IsTableOf, name_of, table_at}
 use Rattle.wu_schema.proofs.QueryLemmas.{alone, plain_query}
 use Rattle.wu_schema.proofs.ReadLemmas.{if_err, if_ok}
 use Rattle.wu_schema.proofs.RowLemmas.{no_test}
@@ -12,8 +14,6 @@ use Rattle.wu_schema.specs.Faults.{IsStoreFault}
 use Rattle.wu_store.proofs.OrderAnswers.{sorted, sure_in_order}
 use Rattle.wu_loader.specs.Asked.{HasArranged, LooksAtTables}
 use Rattle.wu_loader.specs.Questions.{question}
-use Rattle.wu_loader.specs.declared.finding.LoadedTable.{LoadedTable}
-use Rattle.wu_loader.specs.declared.finding.LoadedTable.TheVariants as table
 
 -- ---- the law of a question about a whole table
 
@@ -41,9 +41,9 @@ module _ (title : Name) (table : Table) (q : Asked) (fits : Fits title table q) 
 
 -- ---- what such a question does, and what it says
 
-module _ (version : ℕ) (p : Part) (in_p : IsIn p version) (q : Asked) (fits : (tree : ℕ) → Fits (name_of p) (table_in p tree) q) (none : q.parameters ≡ []) where
+module _ (version : ℕ) (p : ProjectTable) (in_p : IsTableOf p version) (q : Asked) (fits : (tree : ℕ) → Fits (name_of p) (table_at p tree) q) (none : q.parameters ≡ []) where
   selects : IsSelect q.text
-  selects = record { parsed = parsed_of (name_of p) (table_in p 0) q; select = select_of (name_of p) (table_in p 0) q; read = (fits 0).read; is = refl }
+  selects = record { parsed = parsed_of (name_of p) (table_at p 0) q; select = select_of (name_of p) (table_at p 0) q; read = (fits 0).read; is = refl }
 
   module _ {S : Type 0} (g : Ghosts S) (old new : Held S) (given : Row) (same : given ≡ []) where
     abbrev before : State
@@ -51,7 +51,7 @@ module _ (version : ℕ) (p : Part) (in_p : IsIn p version) (q : Asked) (fits : 
 
     told : (trees : ProjectTrees) → HasTables version before.now.schema trees → old.step_limit ≡ None → (fault : Fault) (error : Error) → fault ≡ fault_of error → FailsToQuery q.text given before (state g new) error → IsFailure fault
     told trees has unlimited fault error is failed =
-        let there = parts_in version before.now.schema trees has p in_p in
+        let there = has.each p in_p in
         subst IsFailure (sym is) (asked_told (name_of p) there.0 _ q (fits _) before (state g new) there.1 [] error (sym (ap (λ ps. length ps) none)) (fits _).typed unlimited (subst (λ ps. FailsToQuery q.text ps before (state g new) error) same failed))
 
     pub looks_whole : {A : Type 0} (Is : Database → ProjectTrees → List Row → Type 0) → ((trees : ProjectTrees) → HasArranged version before.now trees → (rows : List Row) → Shown q.text [] before (state g new) rows → Is before.now trees rows)
@@ -67,37 +67,26 @@ module _ (version : ℕ) (p : Part) (in_p : IsIn p version) (q : Asked) (fits : 
 
 -- ---- each table
 
-abbrev pub table_part : LoadedTable → Part
-table_part table.Project = Project
-table_part table.Workunit = Workunits
-table_part table.Result = Instances
-table_part table.CreditGrant = Grants
-table_part table.Host = Hosts
-table_part table.Archived = Archive
-table_part table.Import = Imports
-table_part table.HostClass = HostClasses
-table_part table.WorkunitClass = WorkClasses
-
 -- all columns, in order of the first if that is the rowid
-abbrev pub table_asked : LoadedTable → Asked
-table_asked table.Project = whole_table (question table.Project) (0 ∷ 1 ∷ 2 ∷ []) (0 ∷ [])
-table_asked table.Workunit = whole_table (question table.Workunit) (0 ∷ 1 ∷ 2 ∷ 3 ∷ 4 ∷ 5 ∷ 6 ∷ 7 ∷ 8 ∷ 9 ∷ 10 ∷ 11 ∷ 12 ∷ 13 ∷ 14 ∷ []) (0 ∷ [])
-table_asked table.Result = whole_table (question table.Result) (0 ∷ 1 ∷ 2 ∷ 3 ∷ 4 ∷ 5 ∷ 6 ∷ 7 ∷ 8 ∷ 9 ∷ 10 ∷ []) []
-table_asked table.CreditGrant = whole_table (question table.CreditGrant) (0 ∷ 1 ∷ 2 ∷ 3 ∷ 4 ∷ []) (0 ∷ [])
-table_asked table.Host = whole_table (question table.Host) (0 ∷ 1 ∷ 2 ∷ []) []
-table_asked table.Archived = whole_table (question table.Archived) (0 ∷ 1 ∷ 2 ∷ 3 ∷ 4 ∷ 5 ∷ 6 ∷ []) (0 ∷ [])
-table_asked table.Import = whole_table (question table.Import) (0 ∷ 1 ∷ 2 ∷ 3 ∷ 4 ∷ 5 ∷ []) []
-table_asked table.HostClass = whole_table (question table.HostClass) (0 ∷ 1 ∷ []) []
-table_asked table.WorkunitClass = whole_table (question table.WorkunitClass) (0 ∷ 1 ∷ []) (0 ∷ [])
+abbrev pub table_asked : ProjectTable → Asked
+table_asked the_table.Project = whole_table (question the_table.Project) (0 ∷ 1 ∷ 2 ∷ []) (0 ∷ [])
+table_asked the_table.Workunit = whole_table (question the_table.Workunit) (0 ∷ 1 ∷ 2 ∷ 3 ∷ 4 ∷ 5 ∷ 6 ∷ 7 ∷ 8 ∷ 9 ∷ 10 ∷ 11 ∷ 12 ∷ 13 ∷ 14 ∷ []) (0 ∷ [])
+table_asked the_table.Result = whole_table (question the_table.Result) (0 ∷ 1 ∷ 2 ∷ 3 ∷ 4 ∷ 5 ∷ 6 ∷ 7 ∷ 8 ∷ 9 ∷ 10 ∷ []) []
+table_asked the_table.Grant = whole_table (question the_table.Grant) (0 ∷ 1 ∷ 2 ∷ 3 ∷ 4 ∷ []) (0 ∷ [])
+table_asked the_table.Host = whole_table (question the_table.Host) (0 ∷ 1 ∷ 2 ∷ []) []
+table_asked the_table.Archived = whole_table (question the_table.Archived) (0 ∷ 1 ∷ 2 ∷ 3 ∷ 4 ∷ 5 ∷ 6 ∷ []) (0 ∷ [])
+table_asked the_table.Import = whole_table (question the_table.Import) (0 ∷ 1 ∷ 2 ∷ 3 ∷ 4 ∷ 5 ∷ []) []
+table_asked the_table.HostClass = whole_table (question the_table.HostClass) (0 ∷ 1 ∷ []) []
+table_asked the_table.WorkunitClass = whole_table (question the_table.WorkunitClass) (0 ∷ 1 ∷ []) (0 ∷ [])
 
-pub table_fits : (t : LoadedTable) (tree : ℕ) → Fits (name_of (table_part t)) (table_in (table_part t) tree) (table_asked t)
+pub table_fits : (t : ProjectTable) (tree : ℕ) → Fits (name_of t) (table_at t tree) (table_asked t)
 unfolding everything
-table_fits table.Project tree = record { shown = refl; tests = refl; strict = refl; order = refl; height = (0, tt); few = omega arith; limit = λ schema. refl; read = refl; typed = refl }
-table_fits table.Workunit tree = record { shown = refl; tests = refl; strict = refl; order = refl; height = (0, tt); few = omega arith; limit = λ schema. refl; read = refl; typed = refl }
-table_fits table.Result tree = record { shown = refl; tests = refl; strict = refl; order = refl; height = (0, tt); few = omega arith; limit = λ schema. refl; read = refl; typed = refl }
-table_fits table.CreditGrant tree = record { shown = refl; tests = refl; strict = refl; order = refl; height = (0, tt); few = omega arith; limit = λ schema. refl; read = refl; typed = refl }
-table_fits table.Host tree = record { shown = refl; tests = refl; strict = refl; order = refl; height = (0, tt); few = omega arith; limit = λ schema. refl; read = refl; typed = refl }
-table_fits table.Archived tree = record { shown = refl; tests = refl; strict = refl; order = refl; height = (0, tt); few = omega arith; limit = λ schema. refl; read = refl; typed = refl }
-table_fits table.Import tree = record { shown = refl; tests = refl; strict = refl; order = refl; height = (0, tt); few = omega arith; limit = λ schema. refl; read = refl; typed = refl }
-table_fits table.HostClass tree = record { shown = refl; tests = refl; strict = refl; order = refl; height = (0, tt); few = omega arith; limit = λ schema. refl; read = refl; typed = refl }
-table_fits table.WorkunitClass tree = record { shown = refl; tests = refl; strict = refl; order = refl; height = (0, tt); few = omega arith; limit = λ schema. refl; read = refl; typed = refl }
+table_fits the_table.Project tree = record { shown = refl; tests = refl; strict = refl; order = refl; height = (0, tt); few = omega arith; limit = λ schema. refl; read = refl; typed = refl }
+table_fits the_table.Workunit tree = record { shown = refl; tests = refl; strict = refl; order = refl; height = (0, tt); few = omega arith; limit = λ schema. refl; read = refl; typed = refl }
+table_fits the_table.Result tree = record { shown = refl; tests = refl; strict = refl; order = refl; height = (0, tt); few = omega arith; limit = λ schema. refl; read = refl; typed = refl }
+table_fits the_table.Grant tree = record { shown = refl; tests = refl; strict = refl; order = refl; height = (0, tt); few = omega arith; limit = λ schema. refl; read = refl; typed = refl }
+table_fits the_table.Host tree = record { shown = refl; tests = refl; strict = refl; order = refl; height = (0, tt); few = omega arith; limit = λ schema. refl; read = refl; typed = refl }
+table_fits the_table.Archived tree = record { shown = refl; tests = refl; strict = refl; order = refl; height = (0, tt); few = omega arith; limit = λ schema. refl; read = refl; typed = refl }
+table_fits the_table.Import tree = record { shown = refl; tests = refl; strict = refl; order = refl; height = (0, tt); few = omega arith; limit = λ schema. refl; read = refl; typed = refl }
+table_fits the_table.HostClass tree = record { shown = refl; tests = refl; strict = refl; order = refl; height = (0, tt); few = omega arith; limit = λ schema. refl; read = refl; typed = refl }
+table_fits the_table.WorkunitClass tree = record { shown = refl; tests = refl; strict = refl; order = refl; height = (0, tt); few = omega arith; limit = λ schema. refl; read = refl; typed = refl }

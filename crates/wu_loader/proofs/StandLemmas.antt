@@ -23,6 +23,7 @@ use Rattle.wu_loader.specs.declared.tables.PlainRows.{PlainRows}
 use Rattle.wu_loader.specs.declared.tables.TableRows.{TableRows}
 use Rattle.wu_loader.proofs.CellLemmas.{keyed_is, row_typed, unkeyed_is, whole_last}
 use Rattle.wu_loader.proofs.WorkLemmas.{flat_rows}
+use Rattle.wu_schema.specs.declared.table.ProjectTable.TheVariants as the_table
 
 -- ---- lists
 
@@ -173,50 +174,50 @@ module _ (version : ℕ) (db : Database) (trees : ProjectTrees) (rows : PlainRow
   there : {name : List ℕ} {t : Table} → HasNamed db.schema name t → Has db.schema.tables t
   there {name} {t} named = is_there db.schema name t named
 
-  instances_stand : IsPermutation (flat_map instances_of world.workunits) (map (drop 1) (db.trees trees.result))
-  instances_stand = stands_unkeyed db sound (result_at trees.result) (there has.tables.result) 10 refl (λ row. refl) _ _ (output_some world.workunits) shown.instances are.instances
+  instances_stand : IsPermutation (flat_map instances_of world.workunits) (map (drop 1) (db.trees (trees the_table.Result)))
+  instances_stand = stands_unkeyed db sound (result_at (trees the_table.Result)) (there (has.tables.each the_table.Result tt)) 10 refl (λ row. refl) _ _ (output_some world.workunits) shown.instances are.instances
 
-  hosts_stand : IsPermutation (map (host_of world.grants) (hosts_of world.grants)) (map (drop 1) (db.trees trees.host))
-  hosts_stand = stands_unkeyed db sound (host_at trees.host) (there has.tables.host) 2 refl (λ row. refl) _ _ (mapped_some (host_of world.grants) (hosts_of world.grants) 2 (λ name. number_some (grants_of world.grants name))) shown.hosts are.hosts
+  hosts_stand : IsPermutation (map (host_of world.grants) (hosts_of world.grants)) (map (drop 1) (db.trees (trees the_table.Host)))
+  hosts_stand = stands_unkeyed db sound (host_at (trees the_table.Host)) (there (has.tables.each the_table.Host tt)) 2 refl (λ row. refl) _ _ (mapped_some (host_of world.grants) (hosts_of world.grants) 2 (λ name. number_some (grants_of world.grants name))) shown.hosts are.hosts
 
-  imports_stand : IsPermutation (map import_cells world.imports) (map (drop 1) (db.trees trees.import))
-  imports_stand = stands_unkeyed db sound (import_at trees.import) (there has.tables.import) 5 refl (λ row. refl) _ _ (mapped_some import_cells world.imports 5 (λ import. text_some (verdict_digits import.verdicts))) shown.imports are.imports
+  imports_stand : IsPermutation (map import_cells world.imports) (map (drop 1) (db.trees (trees the_table.Import)))
+  imports_stand = stands_unkeyed db sound (import_at (trees the_table.Import)) (there (has.tables.each the_table.Import tt)) 5 refl (λ row. refl) _ _ (mapped_some import_cells world.imports 5 (λ import. text_some (verdict_digits import.verdicts))) shown.imports are.imports
 
-  workunits_stand : AreWhole 15 (db.trees trees.workunit) → db.trees trees.workunit ≡ map stored_workunit world.workunits
+  workunits_stand : AreWhole 15 (db.trees (trees the_table.Workunit)) → db.trees (trees the_table.Workunit) ≡ map stored_workunit world.workunits
   workunits_stand whole =
-      let each = all_has (λ r. length r ≡ 16) (db.trees trees.workunit) in
-      stored_keyed db sound (workunit_at trees.workunit) (there has.tables.workunit) _ _ 14 refl refl (λ row in_tree. each row whole in_tree) rows.workunits.items shown.workunits ∙ ap (map behind_key) are.workunits ∙ map-map behind_key workunit_row world.workunits
+      let each = all_has (λ r. length r ≡ 16) (db.trees (trees the_table.Workunit)) in
+      stored_keyed db sound (workunit_at (trees the_table.Workunit)) (there (has.tables.each the_table.Workunit tt)) _ _ 14 refl refl (λ row in_tree. each row whole in_tree) rows.workunits.items shown.workunits ∙ ap (map behind_key) are.workunits ∙ map-map behind_key workunit_row world.workunits
 
   -- the tables of classes
   classes_stand : IsClassedVersion version → (classes : ClassRows) → ShowsClasses db.trees trees classes → AreClassRowsOf classes world → HasClasses db.trees trees world
   classes_stand known classes shows same = record {
     hosts = record {
-      shaped = has.arranged.host_class known;
-      same = stands_unkeyed db sound (host_class_at trees.host_class) (there (has.tables.host_class known)) 1 refl (λ row. refl) _ _ (mapped_some class_cells world.classes 1 (λ it. number_some it.class)) shows.hosts same.hosts;
+      shaped = has.arranged the_table.HostClass known;
+      same = stands_unkeyed db sound (host_class_at (trees the_table.HostClass)) (there (has.tables.each the_table.HostClass known)) 1 refl (λ row. refl) _ _ (mapped_some class_cells world.classes 1 (λ it. number_some it.class)) shows.hosts same.hosts;
     };
     workunits = record {
-      shaped = has.arranged.workunit_class known;
-      same = stands_keyed db sound (workunit_class_at trees.workunit_class) (there (has.tables.workunit_class known)) _ _ 1 refl refl refl (λ row. refl) (λ (w : Workunit). classed_row (classed_of w)) world.workunits _ shows.workunits (same.workunits ∙ map-map classed_row classed_of world.workunits) (λ w. number_some w.class);
+      shaped = has.arranged the_table.WorkunitClass known;
+      same = stands_keyed db sound (workunit_class_at (trees the_table.WorkunitClass)) (there (has.tables.each the_table.WorkunitClass known)) _ _ 1 refl refl refl (λ row. refl) (λ (w : Workunit). classed_row (classed_of w)) world.workunits _ shows.workunits (same.workunits ∙ map-map classed_row classed_of world.workunits) (λ w. number_some w.class);
     };
   }
 
   -- the tables are what the world holds
-  pub rows_stand : AreWhole 15 (db.trees trees.workunit) → (classes : Option ClassRows) → MatchOption classes (¬ IsClassedVersion version) (λ found. IsClassedVersion version × ShowsClasses db.trees trees found) → AreAnyClassRowsOf classes world → AreInOrder world.classes → world.version ≡ version → HasRows db.trees trees world
+  pub rows_stand : AreWhole 15 (db.trees (trees the_table.Workunit)) → (classes : Option ClassRows) → MatchOption classes (¬ IsClassedVersion version) (λ found. IsClassedVersion version × ShowsClasses db.trees trees found) → AreAnyClassRowsOf classes world → AreInOrder world.classes → world.version ≡ version → HasRows db.trees trees world
   rows_stand whole classes shows same in_order is = record {
-    project = stands_keyed db sound (project_at trees.project) (there has.tables.project) _ _ 2 refl refl refl (λ row. refl) project_row (project_of world ∷ []) _ shown.project are.project (λ p. number_some p.next_number);
-    workunits = record { shaped = has.arranged.workunit; same = workunits_stand whole };
-    instances = record { shaped = has.arranged.result; same = instances_stand };
+    project = stands_keyed db sound (project_at (trees the_table.Project)) (there (has.tables.each the_table.Project tt)) _ _ 2 refl refl refl (λ row. refl) project_row (project_of world ∷ []) _ shown.project are.project (λ p. number_some p.next_number);
+    workunits = record { shaped = (has.arranged the_table.Workunit tt); same = workunits_stand whole };
+    instances = record { shaped = (has.arranged the_table.Result tt); same = instances_stand };
     grants = record {
-      shaped = has.arranged.grant;
-      same = stands_keyed db sound (grant_at trees.grant) (there has.tables.grant) _ _ 4 refl refl refl (λ row. refl) (λ (p : ℕ × Grant). grant_row p.0 p.1) (enumerate_from 1 world.grants) _ shown.grants are.grants (λ p. number_some p.1.credit);
+      shaped = (has.arranged the_table.Grant tt);
+      same = stands_keyed db sound (grant_at (trees the_table.Grant)) (there (has.tables.each the_table.Grant tt)) _ _ 4 refl refl refl (λ row. refl) (λ (p : ℕ × Grant). grant_row p.0 p.1) (enumerate_from 1 world.grants) _ shown.grants are.grants (λ p. number_some p.1.credit);
     };
-    hosts = record { shaped = has.arranged.host; same = hosts_stand };
+    hosts = record { shaped = (has.arranged the_table.Host tt); same = hosts_stand };
     archived = record {
-      shaped = has.arranged.archived;
-      same = stands_keyed db sound (archived_at trees.archived) (there has.tables.archived) _ _ 6 refl refl refl (λ row. refl) (λ (p : ℕ × Archived). archived_row p.0 p.1) (enumerate_from 1 world.archived) _ shown.archived are.archived (λ p. number_some p.1.done_at);
+      shaped = (has.arranged the_table.Archived tt);
+      same = stands_keyed db sound (archived_at (trees the_table.Archived)) (there (has.tables.each the_table.Archived tt)) _ _ 6 refl refl refl (λ row. refl) (λ (p : ℕ × Archived). archived_row p.0 p.1) (enumerate_from 1 world.archived) _ shown.archived are.archived (λ p. number_some p.1.done_at);
     };
-    imports = record { shaped = has.arranged.import; same = imports_stand };
-    imported_once = imports_once db trees.import sound (there has.tables.import) has.arranged.import world.imports imports_stand;
+    imports = record { shaped = (has.arranged the_table.Import tt); same = imports_stand };
+    imported_once = imports_once db (trees the_table.Import) sound (there (has.tables.each the_table.Import tt)) (has.arranged the_table.Import tt) world.imports imports_stand;
     imports_kept = recursion_from_All MayBeKept world.imports are.imports_kept;
     classes = λ on. with_classes classes shows same (subst IsClassedVersion is on);
     classless = λ off. without classes shows same (λ on. off (subst IsClassedVersion (sym is) on));
@@ -253,27 +254,25 @@ instances_long ws cell has = mapped_long placed_row (flat_map placed_of ws) 11 (
 module _ (db : Database) (trees : ProjectTrees) (world : World) (stands : HasRows db.trees trees world) where
   -- the rows of such tables are in order of their rowids
   pub stands_arranged : AreArranged world.version db.trees trees
-  stands_arranged = record {
-    project = subst IsArranged (sym stands.project) ((tt, tt), (refl, tt));
-    workunit = stands.workunits.shaped;
-    result = stands.instances.shaped;
-    grant = stands.grants.shaped;
-    host = stands.hosts.shaped;
-    archived = stands.archived.shaped;
-    import = stands.imports.shaped;
-    host_class = λ known. (stands.classes known).hosts.shaped;
-    workunit_class = λ known. (stands.classes known).workunits.shaped;
-  }
+  stands_arranged the_table.Project is_in = subst IsArranged (sym stands.project) ((tt, tt), (refl, tt))
+  stands_arranged the_table.Workunit is_in = stands.workunits.shaped
+  stands_arranged the_table.Result is_in = stands.instances.shaped
+  stands_arranged the_table.Grant is_in = stands.grants.shaped
+  stands_arranged the_table.Host is_in = stands.hosts.shaped
+  stands_arranged the_table.Archived is_in = stands.archived.shaped
+  stands_arranged the_table.Import is_in = stands.imports.shaped
+  stands_arranged the_table.HostClass is_in = (stands.classes is_in).hosts.shaped
+  stands_arranged the_table.WorkunitClass is_in = (stands.classes is_in).workunits.shaped
 
   plain_shown : (read : PlainRows) → ShowsPlain db.trees trees read → ArePlainRowsOf read world
   plain_shown read shown = record {
     project = shown.project ∙ ap (map (keyed 3)) stands.project;
     workunits = shown.workunits ∙ ap (map (keyed 15)) stands.workunits.same ∙ map-map (keyed 15) stored_workunit world.workunits;
-    instances = IsPermutation-trans _ _ _ (shown_unkeyed 10 (db.trees trees.result) (flat_map instances_of world.workunits) (instances_long world.workunits) stands.instances.same) shown.instances;
+    instances = IsPermutation-trans _ _ _ (shown_unkeyed 10 (db.trees (trees the_table.Result)) (flat_map instances_of world.workunits) (instances_long world.workunits) stands.instances.same) shown.instances;
     grants = shown.grants ∙ ap (map (keyed 5)) stands.grants.same ∙ map-map (keyed 5) stored_grant (enumerate_from 1 world.grants);
-    hosts = IsPermutation-trans _ _ _ (shown_unkeyed 2 (db.trees trees.host) _ (mapped_long (host_of world.grants) (hosts_of world.grants) 3 (λ name. refl)) stands.hosts.same) shown.hosts;
+    hosts = IsPermutation-trans _ _ _ (shown_unkeyed 2 (db.trees (trees the_table.Host)) _ (mapped_long (host_of world.grants) (hosts_of world.grants) 3 (λ name. refl)) stands.hosts.same) shown.hosts;
     archived = shown.archived ∙ ap (map (keyed 7)) stands.archived.same ∙ map-map (keyed 7) stored_archived (enumerate_from 1 world.archived);
-    imports = IsPermutation-trans _ _ _ (shown_unkeyed 5 (db.trees trees.import) _ (mapped_long import_cells world.imports 6 (λ import. refl)) stands.imports.same) shown.imports;
+    imports = IsPermutation-trans _ _ _ (shown_unkeyed 5 (db.trees (trees the_table.Import)) _ (mapped_long import_cells world.imports 6 (λ import. refl)) stands.imports.same) shown.imports;
     imports_kept = All-from_recursion MayBeKept world.imports stands.imports_kept;
   }
 
@@ -282,7 +281,7 @@ module _ (db : Database) (trees : ProjectTrees) (world : World) (stands : HasRow
   classes_shown (Some found) (known, shown) =
       let has = stands.classes known in
       record {
-        hosts = IsPermutation-trans _ _ _ (shown_unkeyed 1 (db.trees trees.host_class) _ (mapped_long class_cells world.classes 2 (λ it. refl)) has.hosts.same) shown.hosts;
+        hosts = IsPermutation-trans _ _ _ (shown_unkeyed 1 (db.trees (trees the_table.HostClass)) _ (mapped_long class_cells world.classes 2 (λ it. refl)) has.hosts.same) shown.hosts;
         workunits = shown.workunits ∙ ap (map (keyed 2)) has.workunits.same ∙ map-map (keyed 2) stored_class world.workunits ∙ sym (map-map classed_row classed_of world.workunits);
       }
 

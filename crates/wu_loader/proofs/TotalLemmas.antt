@@ -6,7 +6,8 @@ use Rattle.std.specs.Prelude.{IfSome, sum_by}
 use Rattle.wu_core.specs.Hosts.{is_to}
 use Rattle.wu_store.proofs.GrantSums.{same_count, same_credit}
 use Rattle.wu_loader.specs.Finding.{IsShownWrong}
-use Rattle.wu_loader.specs.First.{rank, AreRightBefore, IsRightOfClasses, IsRightPlain}
+use Rattle.wu_loader.specs.First.{AreRightBefore, IsRightOfClasses, IsRightPlain}
+use Rattle.wu_schema.specs.ProjectTables.{rank}
 use Rattle.wu_loader.specs.Granting.{by_name, referred, IsUngranted, Rise}
 use Rattle.wu_loader.specs.Questions.{ShowsTable}
 use Rattle.wu_loader.specs.Rows.{grant_row}
@@ -14,8 +15,8 @@ use Rattle.wu_schema.specs.Reading.{host_row, IsStoredHost}
 use Rattle.wu_loader.specs.Totals.{HasOtherSums, IsFirstOfOtherSums, ShowsOtherSums}
 use Rattle.wu_loader.specs.Whole.{rows_of, AreSorted}
 use Rattle.wu_loader.specs.Wrongs.{IsWrongHostBeside}
-use Rattle.wu_loader.specs.declared.finding.LoadedTable.{LoadedTable}
-use Rattle.wu_loader.specs.declared.finding.LoadedTable.TheVariants as table
+use Rattle.wu_schema.specs.declared.table.ProjectTable.{ProjectTable}
+use Rattle.wu_schema.specs.declared.table.ProjectTable.TheVariants as the_table
 use Rattle.wu_loader.specs.declared.finding.WrongRow as told
 use Rattle.wu_schema.specs.declared.rows.HostSum.{HostSum}
 use Rattle.wu_loader.specs.declared.tables.PlainRows.{PlainRows}
@@ -59,7 +60,7 @@ module _ (given rows : List Row) (grants sorted : List Grant) (hosts : List Host
         },
   )
 
-pub shows_found : (db : Database) (trees : ProjectTrees) (hosts grants : Vec Row) → ShowsTable table.Host db.trees trees hosts.items → ShowsTable table.CreditGrant db.trees trees grants.items → (found : Option OtherSums) → IfSome found (λ sums. (n : ℕ) × IsFirstOfOtherSums grants.items hosts.items n sums)
+pub shows_found : (db : Database) (trees : ProjectTrees) (hosts grants : Vec Row) → ShowsTable the_table.Host db.trees trees hosts.items → ShowsTable the_table.Grant db.trees trees grants.items → (found : Option OtherSums) → IfSome found (λ sums. (n : ℕ) × IsFirstOfOtherSums grants.items hosts.items n sums)
     → IfSome found (ShowsOtherSums db.trees trees)
 shows_found db trees hosts grants hosts_shown grants_shown None is = tt
 shows_found db trees hosts grants hosts_shown grants_shown (Some sums) is = record { hosts = hosts; grants = grants; hosts_shown = hosts_shown; grants_shown = grants_shown; place = is.0; is = is.1 }
@@ -69,7 +70,7 @@ shows_found db trees hosts grants hosts_shown grants_shown (Some sums) is = reco
 other_wrong : (given rows : List Row) (place : ℕ) (sums : OtherSums) → IsFirstOfOtherSums given rows place sums → IsWrongHostBeside given rows place
 other_wrong given rows place sums is = record { grants = is.grants; rows_are = is.rows_are; wrong = inr (record { hosts = is.hosts; read = is.read; counted = is.counted; wrong = inr (is.rise, inl is.first) }) }
 
-module _ (version : ℕ) (db : Database) (trees : ProjectTrees) (wrong : told.WrongRow) (of_host : wrong.table ≡ table.Host) (first : IsShownWrong version db trees wrong) (sums : OtherSums) (shows : ShowsOtherSums db.trees trees sums) where
+module _ (version : ℕ) (db : Database) (trees : ProjectTrees) (wrong : told.WrongRow) (of_host : wrong.table ≡ the_table.Host) (first : IsShownWrong version db trees wrong) (sums : OtherSums) (shows : ShowsOtherSums db.trees trees sums) where
   -- the rows of hosts as they are shown now, and all other rows as before
   abbrev plain : PlainRows
   plain = record first.rows.plain { hosts = shows.hosts }
@@ -81,21 +82,21 @@ module _ (version : ℕ) (db : Database) (trees : ProjectTrees) (wrong : told.Wr
   is_shown = subst (λ given. IsFirstOfOtherSums given shows.hosts.items shows.place sums) (shows.grants_shown ∙ sym first.shown.plain.grants) shows.is
 
   -- the tables before are as right as they were
-  right_before : (which : LoadedTable) → rank which < 4 → IsRightPlain version plain which
+  right_before : (which : ProjectTable) → rank which < 4 → IsRightPlain version plain which
   right_before which low = go which low (subst (λ t. AreRightBefore version first.rows.plain (rank t)) of_host first.is.plain which low)
     where
-      go : (which : LoadedTable) → rank which < 4 → IsRightPlain version first.rows.plain which → IsRightPlain version plain which
-      go table.Project low right = right
-      go table.Workunit low right = right
-      go table.Result low right = right
-      go table.CreditGrant low right = right
-      go table.Host low right = absurd (omega (arith, low))
-      go table.Archived low right = right
-      go table.Import low right = right
-      go table.HostClass low right = right
-      go table.WorkunitClass low right = right
+      go : (which : ProjectTable) → rank which < 4 → IsRightPlain version first.rows.plain which → IsRightPlain version plain which
+      go the_table.Project low right = right
+      go the_table.Workunit low right = right
+      go the_table.Result low right = right
+      go the_table.Grant low right = right
+      go the_table.Host low right = absurd (omega (arith, low))
+      go the_table.Archived low right = right
+      go the_table.Import low right = right
+      go the_table.HostClass low right = right
+      go the_table.WorkunitClass low right = right
 
-  shown_first : IsShownWrong version db trees (record { table = table.Host; place = shows.place })
+  shown_first : IsShownWrong version db trees (record { table = the_table.Host; place = shows.place })
   shown_first = record {
     rows = rows;
     shown = record {
@@ -113,11 +114,11 @@ module _ (version : ℕ) (db : Database) (trees : ProjectTrees) (wrong : told.Wr
     is = record {
       wrong_row = inl (other_wrong rows.plain.grants.items rows.plain.hosts.items shows.place sums is_shown);
       plain = right_before;
-      classes = subst (λ t. (which : LoadedTable) → rank which < rank t → IsRightOfClasses first.rows.classes which) of_host first.is.classes;
+      classes = subst (λ t. (which : ProjectTable) → rank which < rank t → IsRightOfClasses first.rows.classes which) of_host first.is.classes;
     };
   }
 
   -- the row of that host is the first wrong one
-  pub shown_sums : (it : IsShownWrong version db trees (record { table = table.Host; place = shows.place })) × IsFirstOfOtherSums it.rows.plain.grants.items it.rows.plain.hosts.items shows.place sums
+  pub shown_sums : (it : IsShownWrong version db trees (record { table = the_table.Host; place = shows.place })) × IsFirstOfOtherSums it.rows.plain.grants.items it.rows.plain.hosts.items shows.place sums
   unfolding shown_first
   shown_sums = (shown_first, is_shown)

@@ -14,7 +14,7 @@ use Rattle.wu_loader.specs.declared.rows.ProjectRow.{ProjectRow}
 use Rattle.wu_loader.specs.Whole.{rows_of, AreOfValues, AreSorted, DiffersAt, IsIn, IsNoRow, UnlessMemory}
 use Rattle.wu_loader.specs.declared.finding.NoWorld.{NoWorld}
 use Rattle.wu_loader.specs.declared.finding.NoWorld.TheVariants.{Memory, Wrong as told}
-use Rattle.wu_loader.specs.declared.finding.LoadedTable.{LoadedTable}
+use Rattle.wu_schema.specs.declared.table.ProjectTable.{ProjectTable}
 use Rattle.wu_loader.specs.declared.finding.WrongRow.{WrongRow}
 
 module _ {T : Type 0} (cells : ℕ → T → Row) where
@@ -122,8 +122,8 @@ differs_mapped {X} f inj wanted found place it = record {
 -- ---- through a refusal
 
 -- what holds at a place of the table that is told holds of what is told
-pub at_table : (At : LoadedTable → ℕ → Type 0) (table : LoadedTable) (wrong : WrongRow) → IsIn table (At table) wrong → At wrong.table wrong.place
-at_table At table wrong it = subst (λ (t : LoadedTable). At t wrong.place) (sym it.0) it.1
+pub at_table : (At : ProjectTable → ℕ → Type 0) (table : ProjectTable) (wrong : WrongRow) → IsIn table (At table) wrong → At wrong.table wrong.place
+at_table At table wrong it = subst (λ (t : ProjectTable). At t wrong.place) (sym it.0) it.1
 
 pub unless_then : (reason : NoWorld) (P Q : WrongRow → Type 0) → ((wrong : WrongRow) → P wrong → Q wrong) → UnlessMemory reason P → UnlessMemory reason Q
 unless_then Memory P Q f h = tt

@@ -7,7 +7,7 @@ use Rattle.sqlite.specs.Store.{Ghosts}
 use Rattle.wu_core.specs.declared.fault.Fault.{Fault}
 use Rattle.wu_schema.specs.Asking.{Asks, ServesUnlessFailed}
 use Rattle.wu_schema.specs.Faults.{IsFailure, IsStoreFault}
-use Rattle.wu_schema.specs.Tables.{HasTables, ProjectTrees}
+use Rattle.wu_schema.specs.ProjectTables.{HasTables, ProjectTrees}
 use Rattle.wu_loader.specs.Shown.{AreArranged}
 
 -- The tables of this version are there, and their rows are in order of their rowids.

@@ -7,7 +7,7 @@ use Rattle.sqlite.specs.Store.{Ghosts}
 use Rattle.wu_core.specs.World.{World}
 use Rattle.wu_core.specs.declared.fault.Fault.{Fault}
 use Rattle.wu_schema.specs.Refines.{Refines}
-use Rattle.wu_schema.specs.Tables.{ProjectTrees}
+use Rattle.wu_schema.specs.ProjectTables.{ProjectTrees}
 use Rattle.wu_loader.specs.Asked.{HasArranged}
 use Rattle.wu_loader.specs.First.{IsFirstWrong}
 use Rattle.wu_loader.specs.Shown.{AreWhole, ShowsTables}
@@ -16,6 +16,7 @@ use Rattle.wu_loader.specs.declared.finding.Found.{Found}
 use Rattle.wu_loader.specs.declared.finding.Found.TheVariants as found
 use Rattle.wu_loader.specs.declared.finding.WrongRow.{WrongRow}
 use Rattle.wu_loader.specs.declared.tables.TableRows.{TableRows}
+use Rattle.wu_schema.specs.declared.table.ProjectTable.TheVariants as the_table
 
 -- If a world is found, this holds of it.
 abbrev pub IfWorld : Found → (World → Type 0) → Type 0
@@ -31,7 +32,7 @@ IfWrong (found.Wrong wrong) Holds = Holds wrong
 -- world that is found.
 abbrev pub FindsWorld : {S : Type 0} → ℕ → Ghosts S → Held S → Held S → Result Found Fault → Type 0
 FindsWorld version g old new result =
-    HasCleanDisk (state g new) → (trees : ProjectTrees) → HasArranged version (state g old).now trees → AreWhole 15 ((state g old).now.trees trees.workunit)
+    HasCleanDisk (state g new) → (trees : ProjectTrees) → HasArranged version (state g old).now trees → AreWhole 15 ((state g old).now.trees (trees the_table.Workunit))
     → IfOk result (λ found. IfWorld found (Refines (state g old).now))
 
 -- If a wrong row is reported, the tables represent no world of this version with values that rows may have.

@@ -16,27 +16,14 @@ use Rattle.wu_schema.specs.Reading.{IsStoredHostClass}
 use Rattle.wu_loader.specs.Whole.{rows_of, AreOfValues}
 use Rattle.wu_loader.specs.Worlds.{AreRowsOfWorks}
 use Rattle.wu_loader.specs.Wrongs.{AreWorkunits, IsWrongClass, IsWrongPlain, IsWrongRow}
-use Rattle.wu_loader.specs.declared.finding.LoadedTable.{LoadedTable}
-use Rattle.wu_loader.specs.declared.finding.LoadedTable.TheVariants as table
+use Rattle.wu_schema.specs.ProjectTables.{rank}
+use Rattle.wu_schema.specs.declared.table.ProjectTable.{ProjectTable}
+use Rattle.wu_schema.specs.declared.table.ProjectTable.TheVariants as the_table
 use Rattle.wu_loader.specs.declared.finding.WrongRow as told
 use Rattle.wu_loader.specs.declared.rows.ProjectRow.{ProjectRow}
 use Rattle.wu_loader.specs.declared.tables.ClassRows.{ClassRows}
 use Rattle.wu_loader.specs.declared.tables.PlainRows.{PlainRows}
 use Rattle.wu_loader.specs.declared.tables.TableRows.{TableRows}
-
--- ---- the written order
-
--- The place of a table in the written order.
-abbrev pub rank : LoadedTable → ℕ
-rank table.Project = 0
-rank table.Workunit = 1
-rank table.Result = 2
-rank table.CreditGrant = 3
-rank table.Host = 4
-rank table.Archived = 5
-rank table.Import = 6
-rank table.HostClass = 7
-rank table.WorkunitClass = 8
 
 -- ---- tables without a wrong row
 
@@ -68,29 +55,29 @@ pub record AreHostClasses (rows : List Row) : Type 0 where
   pub in_order : AreInOrder classes
 
 -- No row of this table, which every version has, is wrong or missing.
-abbrev pub IsRightPlain : ℕ → PlainRows → LoadedTable → Type 0
-IsRightPlain version rows table.Project = AreProjectRows version rows.project.items
-IsRightPlain version rows table.Workunit = AreWorkunits rows.workunits.items
-IsRightPlain version rows table.Result = AreResults rows.workunits.items rows.instances.items
-IsRightPlain version rows table.CreditGrant = AreOfValues grant_row IsStoredGrant rows.grants.items
-IsRightPlain version rows table.Host = AreHostsOf rows.grants.items rows.hosts.items
-IsRightPlain version rows table.Archived = AreOfValues archived_row IsStoredArchived rows.archived.items
-IsRightPlain version rows table.Import = AreOfValues (λ _. import_cells) IsStoredImport rows.imports.items
+abbrev pub IsRightPlain : ℕ → PlainRows → ProjectTable → Type 0
+IsRightPlain version rows the_table.Project = AreProjectRows version rows.project.items
+IsRightPlain version rows the_table.Workunit = AreWorkunits rows.workunits.items
+IsRightPlain version rows the_table.Result = AreResults rows.workunits.items rows.instances.items
+IsRightPlain version rows the_table.Grant = AreOfValues grant_row IsStoredGrant rows.grants.items
+IsRightPlain version rows the_table.Host = AreHostsOf rows.grants.items rows.hosts.items
+IsRightPlain version rows the_table.Archived = AreOfValues archived_row IsStoredArchived rows.archived.items
+IsRightPlain version rows the_table.Import = AreOfValues (λ _. import_cells) IsStoredImport rows.imports.items
 IsRightPlain version rows _ = ⊤
 
 -- No row of the classes of hosts is wrong. No table comes behind the classes of workunits.
-abbrev pub IsRightClass : ClassRows → LoadedTable → Type 0
-IsRightClass rows table.HostClass = AreHostClasses rows.hosts.items
+abbrev pub IsRightClass : ClassRows → ProjectTable → Type 0
+IsRightClass rows the_table.HostClass = AreHostClasses rows.hosts.items
 IsRightClass rows _ = ⊤
 
-abbrev pub IsRightOfClasses : Option ClassRows → LoadedTable → Type 0
+abbrev pub IsRightOfClasses : Option ClassRows → ProjectTable → Type 0
 IsRightOfClasses rows which = MatchOption rows ⊤ (λ classes. IsRightClass classes which)
 
 -- ---- the first
 
 -- Each table that every version has and whose place is below this one is right.
 abbrev pub AreRightBefore : ℕ → PlainRows → ℕ → Type 0
-AreRightBefore version rows place = (which : LoadedTable) → rank which < place → IsRightPlain version rows which
+AreRightBefore version rows place = (which : ProjectTable) → rank which < place → IsRightPlain version rows which
 
 -- This row is the first that is wrong in the tables that every version has.
 pub record IsFirstPlain (version : ℕ) (rows : PlainRows) (wrong : told.WrongRow) : Type 0 where
@@ -100,11 +87,11 @@ pub record IsFirstPlain (version : ℕ) (rows : PlainRows) (wrong : told.WrongRo
 -- This row is the first that is wrong in the tables of classes.
 pub record IsFirstClass (works : List Row) (rows : Option ClassRows) (wrong : told.WrongRow) : Type 0 where
   pub wrong_row : IsWrongClass works rows wrong
-  pub before : (which : LoadedTable) → rank which < rank wrong.table → IsRightOfClasses rows which
+  pub before : (which : ProjectTable) → rank which < rank wrong.table → IsRightOfClasses rows which
 
 -- This row is the first that is wrong in a project of this version: the first of its table, and no table before has a
 -- wrong row.
 pub record IsFirstWrong (version : ℕ) (rows : TableRows) (wrong : told.WrongRow) : Type 0 where
   pub wrong_row : IsWrongRow version rows wrong
   pub plain : AreRightBefore version rows.plain (rank wrong.table)
-  pub classes : (which : LoadedTable) → rank which < rank wrong.table → IsRightOfClasses rows.classes which
+  pub classes : (which : ProjectTable) → rank which < rank wrong.table → IsRightOfClasses rows.classes which

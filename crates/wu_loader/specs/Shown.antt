@@ -7,10 +7,13 @@ use Rattle.sqlite.specs.Tree.{Trees}
 use Rattle.sqlite.specs.declared.types.Value.TheVariants.{Null}
 use Rattle.sqlite_trees.specs.View.{IsShaped}
 use Rattle.sqlite_trees.specs.declared.store.Shape.TheVariants as shape
-use Rattle.wu_schema.specs.Tables.{IsClassedVersion, ProjectTrees}
+use Rattle.wu_schema.specs.ProjectTables.{IsTableOf, ProjectTrees}
+use Rattle.wu_schema.specs.Tables.{IsClassedVersion}
+use Rattle.wu_schema.specs.declared.table.ProjectTable.{ProjectTable}
 use Rattle.wu_loader.specs.declared.tables.ClassRows.{ClassRows}
 use Rattle.wu_loader.specs.declared.tables.PlainRows.{PlainRows}
 use Rattle.wu_loader.specs.declared.tables.TableRows.{TableRows}
+use Rattle.wu_schema.specs.declared.table.ProjectTable.TheVariants as the_table
 
 -- The row of a table with so many columns whose key is the rowid: its key, and the columns after the key's own.
 abbrev pub keyed : ℕ → Row → Row
@@ -30,16 +33,8 @@ abbrev pub IsArranged : List Row → Type 0
 IsArranged rows = IsShaped shape.Table rows
 
 -- The rows of each table of this version are in order of their rowids.
-pub record AreArranged (version : ℕ) (db : Trees) (trees : ProjectTrees) : Type 0 where
-  pub project : IsArranged (db trees.project)
-  pub workunit : IsArranged (db trees.workunit)
-  pub result : IsArranged (db trees.result)
-  pub grant : IsArranged (db trees.grant)
-  pub host : IsArranged (db trees.host)
-  pub archived : IsArranged (db trees.archived)
-  pub import : IsArranged (db trees.import)
-  pub host_class : IsClassedVersion version → IsArranged (db trees.host_class)
-  pub workunit_class : IsClassedVersion version → IsArranged (db trees.workunit_class)
+abbrev pub AreArranged : ℕ → Trees → ProjectTrees → Type 0
+AreArranged version db trees = (table : ProjectTable) → IsTableOf table version → IsArranged (db (trees table))
 
 -- Each row has a cell for its rowid and one for each of so many columns. A question shows a missing last cell as NULL,
 -- so it cannot report that one is missing.
@@ -48,18 +43,18 @@ AreWhole count rows = AllByRecursion (λ row. length row ≡ count + 1) rows
 
 -- The rows that are shown of the tables of every version: in order of the key if that is the rowid, else in any order.
 pub record ShowsPlain (db : Trees) (trees : ProjectTrees) (rows : PlainRows) : Type 0 where
-  pub project : rows.project.items ≡ map (keyed 3) (db trees.project)
-  pub workunits : rows.workunits.items ≡ map (keyed 15) (db trees.workunit)
-  pub instances : IsPermutation (map (unkeyed 11) (db trees.result)) rows.instances.items
-  pub grants : rows.grants.items ≡ map (keyed 5) (db trees.grant)
-  pub hosts : IsPermutation (map (unkeyed 3) (db trees.host)) rows.hosts.items
-  pub archived : rows.archived.items ≡ map (keyed 7) (db trees.archived)
-  pub imports : IsPermutation (map (unkeyed 6) (db trees.import)) rows.imports.items
+  pub project : rows.project.items ≡ map (keyed 3) (db (trees the_table.Project))
+  pub workunits : rows.workunits.items ≡ map (keyed 15) (db (trees the_table.Workunit))
+  pub instances : IsPermutation (map (unkeyed 11) (db (trees the_table.Result))) rows.instances.items
+  pub grants : rows.grants.items ≡ map (keyed 5) (db (trees the_table.Grant))
+  pub hosts : IsPermutation (map (unkeyed 3) (db (trees the_table.Host))) rows.hosts.items
+  pub archived : rows.archived.items ≡ map (keyed 7) (db (trees the_table.Archived))
+  pub imports : IsPermutation (map (unkeyed 6) (db (trees the_table.Import))) rows.imports.items
 
 -- The rows that are shown of the tables of classes.
 pub record ShowsClasses (db : Trees) (trees : ProjectTrees) (rows : ClassRows) : Type 0 where
-  pub hosts : IsPermutation (map (unkeyed 2) (db trees.host_class)) rows.hosts.items
-  pub workunits : rows.workunits.items ≡ map (keyed 2) (db trees.workunit_class)
+  pub hosts : IsPermutation (map (unkeyed 2) (db (trees the_table.HostClass))) rows.hosts.items
+  pub workunits : rows.workunits.items ≡ map (keyed 2) (db (trees the_table.WorkunitClass))
 
 -- The rows that are shown of the tables of this version; before version 3 there are no tables of classes.
 pub record ShowsTables (version : ℕ) (db : Trees) (trees : ProjectTrees) (rows : TableRows) : Type 0 where

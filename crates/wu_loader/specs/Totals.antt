@@ -5,13 +5,13 @@ use Rattle.sqlite.specs.Order.{Row}
 use Rattle.sqlite.specs.Tree.{Trees}
 use Rattle.wu_core.specs.Hosts.{credit_of, grants_of}
 use Rattle.wu_core.specs.declared.workunit.Grant.{Grant}
-use Rattle.wu_schema.specs.Tables.{ProjectTrees}
+use Rattle.wu_schema.specs.ProjectTables.{ProjectTrees}
 use Rattle.wu_loader.specs.Granting.{by_name, IsUngranted, Rise}
 use Rattle.wu_loader.specs.Questions.{ShowsTable}
 use Rattle.wu_loader.specs.Rows.{grant_row}
 use Rattle.wu_schema.specs.Reading.{host_row, IsStoredHost}
 use Rattle.wu_loader.specs.Whole.{rows_of, AreSorted}
-use Rattle.wu_loader.specs.declared.finding.LoadedTable.TheVariants as table
+use Rattle.wu_schema.specs.declared.table.ProjectTable.TheVariants as the_table
 use Rattle.wu_schema.specs.declared.rows.HostSum.{HostSum}
 use Rattle.wu_loader.specs.declared.totals.OtherSums as told
 
@@ -39,7 +39,7 @@ pub record IsFirstOfOtherSums (given rows : List Row) (place : ℕ) (sums : told
 pub record ShowsOtherSums (db : Trees) (trees : ProjectTrees) (sums : told.OtherSums) : Type 0 where
   pub hosts : Vec Row
   pub grants : Vec Row
-  pub hosts_shown : ShowsTable table.Host db trees hosts.items
-  pub grants_shown : ShowsTable table.CreditGrant db trees grants.items
+  pub hosts_shown : ShowsTable the_table.Host db trees hosts.items
+  pub grants_shown : ShowsTable the_table.Grant db trees grants.items
   pub place : ℕ
   pub is : IsFirstOfOtherSums grants.items hosts.items place sums

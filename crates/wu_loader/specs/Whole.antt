@@ -7,7 +7,7 @@ use Rattle.std.specs.declared.cmp.Ordering.TheVariants.{Less}
 use Rattle.sqlite.specs.Order.{Row}
 use Rattle.wu_loader.specs.declared.finding.NoWorld.{NoWorld}
 use Rattle.wu_loader.specs.declared.finding.NoWorld.TheVariants.{Memory, Wrong}
-use Rattle.wu_loader.specs.declared.finding.LoadedTable.{LoadedTable}
+use Rattle.wu_schema.specs.declared.table.ProjectTable.{ProjectTable}
 use Rattle.wu_loader.specs.declared.finding.WrongRow as told
 
 -- The rows of values, with their places from 1.
@@ -34,7 +34,7 @@ UnlessMemory Memory Holds = ⊤
 UnlessMemory (Wrong wrong) Holds = Holds wrong
 
 -- A row of this table is reported, at a place of which this holds.
-abbrev pub IsIn : LoadedTable → (ℕ → Type 0) → told.WrongRow → Type 0
+abbrev pub IsIn : ProjectTable → (ℕ → Type 0) → told.WrongRow → Type 0
 IsIn table Holds wrong = (wrong.table ≡ table) × Holds wrong.place
 
 -- ---- places

@@ -15,8 +15,8 @@ use Rattle.wu_loader.specs.Rows.{archived_row, classed_row, grant_row, placed_ro
 use Rattle.wu_schema.specs.Reading.{host_row, IsStoredHost, IsStoredHostClass}
 use Rattle.wu_loader.specs.Whole.{rows_of, AreOfValues, AreSorted, DiffersAt, IsIn, IsNoRow, IsNotAbove}
 use Rattle.wu_loader.specs.Worlds.{IsOrdered}
-use Rattle.wu_loader.specs.declared.finding.LoadedTable.{LoadedTable}
-use Rattle.wu_loader.specs.declared.finding.LoadedTable.TheVariants as table
+use Rattle.wu_schema.specs.declared.table.ProjectTable.{ProjectTable}
+use Rattle.wu_schema.specs.declared.table.ProjectTable.TheVariants as the_table
 use Rattle.wu_loader.specs.declared.finding.WrongRow as told
 use Rattle.wu_schema.specs.declared.rows.HostSum.{HostSum}
 use Rattle.wu_loader.specs.declared.rows.Placed.{Placed}
@@ -78,7 +78,7 @@ AreWorkunits rows = AreOfValues (λ _. workunit_row) IsStoredWorkunit rows
 
 -- The wrong row that is reported is one of workunits; or, where none of these is wrong, one of results.
 abbrev pub IsWrongWork : (works rows : List Row) → told.WrongRow → Type 0
-IsWrongWork works rows wrong = IsIn table.Workunit (IsNoRow (λ _. workunit_row) IsStoredWorkunit works) wrong ⊎ (AreWorkunits works × IsIn table.Result (IsWrongResult works rows) wrong)
+IsWrongWork works rows wrong = IsIn the_table.Workunit (IsNoRow (λ _. workunit_row) IsStoredWorkunit works) wrong ⊎ (AreWorkunits works × IsIn the_table.Result (IsWrongResult works rows) wrong)
 
 -- ---- hosts
 
@@ -124,23 +124,23 @@ IsWrongWorkunitClass works rows place =
 -- ---- all tables
 
 -- The row at this place is the first wrong one of a table that every version has.
-abbrev pub IsWrongPlainAt : ℕ → PlainRows → LoadedTable → ℕ → Type 0
-IsWrongPlainAt version rows table.Project place = IsWrongProject version rows.project.items place
-IsWrongPlainAt version rows table.Workunit place = IsNoRow (λ _. workunit_row) IsStoredWorkunit rows.workunits.items place
-IsWrongPlainAt version rows table.Result place = IsWrongResult rows.workunits.items rows.instances.items place
-IsWrongPlainAt version rows table.CreditGrant place = IsNoRow grant_row IsStoredGrant rows.grants.items place
-IsWrongPlainAt version rows table.Host place = IsWrongHostBeside rows.grants.items rows.hosts.items place
-IsWrongPlainAt version rows table.Archived place = IsNoRow archived_row IsStoredArchived rows.archived.items place
-IsWrongPlainAt version rows table.Import place = IsNoRow (λ _. import_cells) IsStoredImport rows.imports.items place
+abbrev pub IsWrongPlainAt : ℕ → PlainRows → ProjectTable → ℕ → Type 0
+IsWrongPlainAt version rows the_table.Project place = IsWrongProject version rows.project.items place
+IsWrongPlainAt version rows the_table.Workunit place = IsNoRow (λ _. workunit_row) IsStoredWorkunit rows.workunits.items place
+IsWrongPlainAt version rows the_table.Result place = IsWrongResult rows.workunits.items rows.instances.items place
+IsWrongPlainAt version rows the_table.Grant place = IsNoRow grant_row IsStoredGrant rows.grants.items place
+IsWrongPlainAt version rows the_table.Host place = IsWrongHostBeside rows.grants.items rows.hosts.items place
+IsWrongPlainAt version rows the_table.Archived place = IsNoRow archived_row IsStoredArchived rows.archived.items place
+IsWrongPlainAt version rows the_table.Import place = IsNoRow (λ _. import_cells) IsStoredImport rows.imports.items place
 IsWrongPlainAt version rows _ place = ⊥
 
 abbrev pub IsWrongPlain : ℕ → PlainRows → told.WrongRow → Type 0
 IsWrongPlain version rows wrong = IsWrongPlainAt version rows wrong.table wrong.place
 
 -- The row at this place is the first wrong one of a table of classes, given the rows of the workunits.
-abbrev pub IsWrongClassAt : List Row → ClassRows → LoadedTable → ℕ → Type 0
-IsWrongClassAt works rows table.HostClass place = IsWrongHostClass rows.hosts.items place
-IsWrongClassAt works rows table.WorkunitClass place = IsWrongWorkunitClass works rows.workunits.items place
+abbrev pub IsWrongClassAt : List Row → ClassRows → ProjectTable → ℕ → Type 0
+IsWrongClassAt works rows the_table.HostClass place = IsWrongHostClass rows.hosts.items place
+IsWrongClassAt works rows the_table.WorkunitClass place = IsWrongWorkunitClass works rows.workunits.items place
 IsWrongClassAt works rows _ place = ⊥
 
 abbrev pub IsWrongClass : List Row → Option ClassRows → told.WrongRow → Type 0

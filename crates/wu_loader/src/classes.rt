@@ -12,12 +12,13 @@ ghost use Rattle.wu_loader.specs.Classing.{by_host, numbers, numbers_classed, Ar
 ghost use Rattle.wu_loader.specs.Whole.{DiffersAt, IsIn, IsNotAbove, UnlessMemory};
 ghost use Rattle.wu_loader.specs.Wrongs.{IsWrongHostClass};
 
-use crate::finding::{LoadedTable, NoWorld, WrongRow};
+use crate::finding::{NoWorld, WrongRow};
 use crate::rows::Classed;
 use crate::whole::all_from;
 use sqlite::Row;
 use std::alloc::{AllocError, Global};
 use wu_core::{HostClass, Workunit};
+use wu_schema::ProjectTable;
 
 /// Returns the workunits, each with class 0.
 pub(crate) fn without_classes(
@@ -50,7 +51,7 @@ pub(crate) fn with_classes(
         (λ _. AreOfOthers workunits.items classes.now)) }
     // The reported row is the first, by number, of which the workunits' numbers and those of the
     // rows of classes differ.
-    ensures told { IfErr result (λ reason. UnlessMemory reason (IsIn LoadedTable.WorkunitClass
+    ensures told { IfErr result (λ reason. UnlessMemory reason (IsIn ProjectTable.WorkunitClass
         (DiffersAt (numbers workunits.items) (numbers_classed classes.now)))) }
 {
     let mut classed = Vec::new(alloc);
@@ -60,7 +61,7 @@ pub(crate) fn with_classes(
             Some(one) if one.workunit == workunit.number => workunit.class = one.class,
             _ => {
                 return Err(NoWorld::Wrong(WrongRow {
-                    table: LoadedTable::WorkunitClass,
+                    table: ProjectTable::WorkunitClass,
                     place: n as u64 + 1,
                 }));
             }
@@ -70,7 +71,7 @@ pub(crate) fn with_classes(
     let n = classed.len();
     if n < classes.len() {
         return Err(NoWorld::Wrong(WrongRow {
-            table: LoadedTable::WorkunitClass,
+            table: ProjectTable::WorkunitClass,
             place: n as u64 + 1,
         }));
     }
@@ -121,16 +122,16 @@ pub(crate) fn host_classes(alloc: Global, rows: &[Row]) -> Result<Vec<HostClass>
         → ¬ IsPermutation (map class_cells classes) rows.now)) }
     // The reported row of `host_class` is the first that is that of no host and class; else, in
     // order of names, the first of a host that occurred before.
-    ensures told { IfErr result (λ reason. UnlessMemory reason (IsIn LoadedTable.HostClass
+    ensures told { IfErr result (λ reason. UnlessMemory reason (IsIn ProjectTable.HostClass
         (IsWrongHostClass rows.now))) }
 {
-    let mut classes = all_from::<HostClass>(alloc, LoadedTable::HostClass, rows)?;
+    let mut classes = all_from::<HostClass>(alloc, ProjectTable::HostClass, rows)?;
     sort(&mut classes)?;
     match first_out_of_order(&classes) {
         Some(wrong) => {
             let place = wrong as u64 + 1;
             Err(NoWorld::Wrong(WrongRow {
-                table: LoadedTable::HostClass,
+                table: ProjectTable::HostClass,
                 place,
             }))
         }

@@ -9,11 +9,12 @@ ghost use Rattle.wu_loader.specs.Whole.{IsIn, UnlessMemory};
 ghost use Rattle.wu_loader.specs.Worlds.{IsOrdered};
 ghost use Rattle.wu_loader.specs.Wrongs.{IsUndealtAt};
 
-use crate::finding::{LoadedTable, NoWorld, WrongRow};
+use crate::finding::{NoWorld, WrongRow};
 use crate::rows::Placed;
 use std::alloc::{AllocError, Global};
 use std::collections::VecDeque;
 use wu_core::{Instance, Instances, MOST_INSTANCES, Workunit};
+use wu_schema::ProjectTable;
 
 /// Sorts the instances by their workunits' numbers, and those of a workunit by their own.
 pub(crate) fn sort(placed: &mut Vec<Placed>) -> Result<(), AllocError>
@@ -77,7 +78,7 @@ pub(crate) fn deal(
     ensures none { IfErr result (λ reason. UnlessMemory reason (λ _. (dealt : List Workunit)
         → IsOrdered dealt → ¬ AreDealt workunits.items placed.items dealt)) }
     // The results before the reported one are instances of the workunits; with it they are not.
-    ensures told { IfErr result (λ reason. UnlessMemory reason (IsIn LoadedTable.Result
+    ensures told { IfErr result (λ reason. UnlessMemory reason (IsIn ProjectTable.Result
         (IsUndealtAt workunits.items placed.items))) }
 {
     let total = placed.len();
@@ -93,7 +94,7 @@ pub(crate) fn deal(
     } else {
         let place = (total - left.len()) as u64 + 1;
         Err(NoWorld::Wrong(WrongRow {
-            table: LoadedTable::Result,
+            table: ProjectTable::Result,
             place,
         }))
     }

@@ -5,20 +5,7 @@ ghost use Rattle.wu_loader.specs.declared.finding.NoWorld.TheVariants.{Memory};
 
 use std::alloc::{AllocError, AllocFailed};
 use wu_audit::Loaded;
-
-/// A table of a project.
-#[derive(Clone, Copy)]
-pub enum LoadedTable {
-    Project,
-    Workunit,
-    Result,
-    CreditGrant,
-    Host,
-    Archived,
-    Import,
-    HostClass,
-    WorkunitClass,
-}
+use wu_schema::ProjectTable;
 
 /// A row that keeps the tables from being those of a world: its table and its place there, counted from 1. A place
 /// after the last row means that a row is missing.
@@ -27,7 +14,7 @@ pub enum LoadedTable {
 /// hosts' names. Imports are counted in any order, and so are these three tables if one of their rows cannot be read.
 #[derive(Clone, Copy)]
 pub struct WrongRow {
-    pub table: LoadedTable,
+    pub table: ProjectTable,
     pub place: u64,
 }
 

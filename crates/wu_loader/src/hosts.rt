@@ -10,11 +10,12 @@ ghost use Rattle.wu_loader.specs.Rows.{IsStoredGrant};
 ghost use Rattle.wu_loader.specs.Whole.{IsIn, IsNotAbove, UnlessMemory};
 ghost use Rattle.wu_loader.specs.Wrongs.{IsWrongHostRow};
 
-use crate::finding::{LoadedTable, NoWorld, WrongRow};
+use crate::finding::{NoWorld, WrongRow};
 use crate::whole::all_from;
 use sqlite::Row;
 use std::alloc::{AllocError, Global};
 use wu_core::{Grant, Name};
+use wu_schema::ProjectTable;
 use wu_schema::rows::HostSum;
 
 /// Sorts the hosts by their names.
@@ -187,17 +188,17 @@ pub(crate) fn know_hosts(alloc: Global, rows: &[Row], grants: &[Grant]) -> Resul
         → ¬ IsPermutation (map (host_of grants.now) (hosts_of grants.now)) rows.now)) }
     // The reported row of `host` is the first that is that of no host; else the first out of order;
     // else the first not as granted; else it is missing after the last one.
-    ensures told { IfErr result (λ reason. UnlessMemory reason (IsIn LoadedTable.Host
+    ensures told { IfErr result (λ reason. UnlessMemory reason (IsIn ProjectTable.Host
         (IsWrongHostRow grants.now rows.now))) }
 {
-    let mut hosts = all_from::<HostSum>(alloc, LoadedTable::Host, rows)?;
+    let mut hosts = all_from::<HostSum>(alloc, ProjectTable::Host, rows)?;
     sort(&mut hosts)?;
     let sorted = grants_by_host(alloc, grants)?;
     match first_wrong_host(&hosts, &sorted) {
         Some(wrong) => {
             let place = wrong as u64 + 1;
             Err(NoWorld::Wrong(WrongRow {
-                table: LoadedTable::Host,
+                table: ProjectTable::Host,
                 place,
             }))
         }

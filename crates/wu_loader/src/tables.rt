@@ -1,12 +1,12 @@
 //! The rows of the tables, each read whole.
 
 ghost use Rattle.std.specs.Prelude.{◌≡◌, ℕ};
+ghost use Rattle.wu_schema.specs.ProjectTables.{IsTableOf};
 ghost use Rattle.wu_schema.specs.Tables.{IsClassedVersion};
 ghost use Rattle.wu_loader.specs.Asked.{LooksAtTables};
-ghost use Rattle.wu_loader.specs.Questions.{IsTableIn, question, ShowsTable};
+ghost use Rattle.wu_loader.specs.Questions.{question, ShowsTable};
 ghost use Rattle.wu_loader.specs.Shown.{ShowsTables, ShowsClasses, ShowsPlain};
 
-use crate::finding::LoadedTable;
 use crate::texts::{
     SELECT_ARCHIVE, SELECT_GRANTS, SELECT_HOST_CLASSES, SELECT_HOSTS, SELECT_IMPORTS,
     SELECT_PROJECT, SELECT_RESULTS, SELECT_WORKUNIT_CLASSES, SELECT_WORKUNITS,
@@ -14,7 +14,7 @@ use crate::texts::{
 use sqlite::{Alter, Connection, Row};
 use std::alloc::Global;
 use wu_core::{CLASS_VERSION, Fault};
-use wu_schema::query;
+use wu_schema::{ProjectTable, query};
 
 /// The rows of the tables that every version has, as questions show them.
 #[derive(Drop)]
@@ -44,30 +44,30 @@ pub struct TableRows {
 }
 
 /// Returns the question for all rows of a table: in order of the key if that is the rowid, else in any order.
-fn question(table: LoadedTable) -> &'static str
+fn question(table: ProjectTable) -> &'static str
     ensures { result.now ≡ question table }
 {
     match table {
-        LoadedTable::Project => SELECT_PROJECT,
-        LoadedTable::Workunit => SELECT_WORKUNITS,
-        LoadedTable::Result => SELECT_RESULTS,
-        LoadedTable::CreditGrant => SELECT_GRANTS,
-        LoadedTable::Host => SELECT_HOSTS,
-        LoadedTable::Archived => SELECT_ARCHIVE,
-        LoadedTable::Import => SELECT_IMPORTS,
-        LoadedTable::HostClass => SELECT_HOST_CLASSES,
-        LoadedTable::WorkunitClass => SELECT_WORKUNIT_CLASSES,
+        ProjectTable::Project => SELECT_PROJECT,
+        ProjectTable::Workunit => SELECT_WORKUNITS,
+        ProjectTable::Result => SELECT_RESULTS,
+        ProjectTable::Grant => SELECT_GRANTS,
+        ProjectTable::Host => SELECT_HOSTS,
+        ProjectTable::Archived => SELECT_ARCHIVE,
+        ProjectTable::Import => SELECT_IMPORTS,
+        ProjectTable::HostClass => SELECT_HOST_CLASSES,
+        ProjectTable::WorkunitClass => SELECT_WORKUNIT_CLASSES,
     }
 }
 
 /// Returns all rows of a table.
 pub(crate) fn rows_of<S: Alter>(
     conn: &mut Connection<S>,
-    table: LoadedTable,
+    table: ProjectTable,
 ) -> Result<Vec<Row>, Fault>
     // Only reads; over tables of a version that has this table, these are all its rows, as the
     // question shows them.
-    ensures { (version : ℕ) → IsTableIn version table
+    ensures { (version : ℕ) → IsTableOf table version
         → LooksAtTables version S.Store conn.old conn.new result
         (λ db trees rows. ShowsTable table db.trees trees rows.items) }
 {
@@ -82,13 +82,13 @@ fn plain_rows<S: Alter>(conn: &mut Connection<S>) -> Result<PlainRows, Fault>
         (λ db trees rows. ShowsPlain db.trees trees rows) }
 {
     Ok(PlainRows {
-        project: rows_of(conn, LoadedTable::Project)?,
-        workunits: rows_of(conn, LoadedTable::Workunit)?,
-        instances: rows_of(conn, LoadedTable::Result)?,
-        grants: rows_of(conn, LoadedTable::CreditGrant)?,
-        hosts: rows_of(conn, LoadedTable::Host)?,
-        archived: rows_of(conn, LoadedTable::Archived)?,
-        imports: rows_of(conn, LoadedTable::Import)?,
+        project: rows_of(conn, ProjectTable::Project)?,
+        workunits: rows_of(conn, ProjectTable::Workunit)?,
+        instances: rows_of(conn, ProjectTable::Result)?,
+        grants: rows_of(conn, ProjectTable::Grant)?,
+        hosts: rows_of(conn, ProjectTable::Host)?,
+        archived: rows_of(conn, ProjectTable::Archived)?,
+        imports: rows_of(conn, ProjectTable::Import)?,
     })
 }
 
@@ -101,8 +101,8 @@ fn class_rows<S: Alter>(conn: &mut Connection<S>) -> Result<ClassRows, Fault>
         (λ db trees rows. ShowsClasses db.trees trees rows) }
 {
     Ok(ClassRows {
-        hosts: rows_of(conn, LoadedTable::HostClass)?,
-        workunits: rows_of(conn, LoadedTable::WorkunitClass)?,
+        hosts: rows_of(conn, ProjectTable::HostClass)?,
+        workunits: rows_of(conn, ProjectTable::WorkunitClass)?,
     })
 }
 

@@ -6,13 +6,14 @@ ghost use Rattle.wu_loader.specs.Asked.{LooksAtTables};
 ghost use Rattle.wu_loader.specs.Granting.{by_host, referred};
 ghost use Rattle.wu_loader.specs.Totals.{HasOtherSums, IsFirstOfOtherSums, ShowsOtherSums};
 
-use crate::finding::{LoadedTable, NoWorld};
+use crate::finding::NoWorld;
 use crate::hosts::{first_out_of_order, first_ungranted, grants_by_host, run_of, sort};
 use crate::tables::rows_of;
 use crate::whole::all_from;
 use sqlite::{Alter, Connection, Row};
 use std::alloc::Global;
 use wu_core::{Fault, Grant};
+use wu_schema::ProjectTable;
 use wu_schema::rows::HostSum;
 
 /// A host whose row has other sums than its grants.
@@ -65,8 +66,8 @@ fn sums_from(alloc: Global, hosts: &[Row], grants: &[Row]) -> Result<Option<Othe
     ensures { IfOk result (λ found. IfSome found (λ sums. (place : ℕ)
         × IsFirstOfOtherSums grants.now hosts.now place sums)) }
 {
-    let grants = all_from::<Grant>(alloc, LoadedTable::CreditGrant, grants)?;
-    let mut hosts = all_from::<HostSum>(alloc, LoadedTable::Host, hosts)?;
+    let grants = all_from::<Grant>(alloc, ProjectTable::Grant, grants)?;
+    let mut hosts = all_from::<HostSum>(alloc, ProjectTable::Host, hosts)?;
     sort(&mut hosts)?;
     let sorted = grants_by_host(alloc, &grants)?;
     let None = first_out_of_order(&hosts) else {
@@ -89,8 +90,8 @@ pub fn other_sums<S: Alter>(
     ensures { (version : ℕ) → LooksAtTables version S.Store conn.old conn.new result
         (λ db trees found. IfSome found (ShowsOtherSums db.trees trees)) }
 {
-    let hosts = rows_of(conn, LoadedTable::Host)?;
-    let grants = rows_of(conn, LoadedTable::CreditGrant)?;
+    let hosts = rows_of(conn, ProjectTable::Host)?;
+    let grants = rows_of(conn, ProjectTable::Grant)?;
     match sums_from(alloc, &hosts, &grants) {
         Ok(found) => Ok(found),
         Err(NoWorld::Wrong(_)) => Ok(None),

@@ -3,16 +3,17 @@
 ghost use Rattle.std.specs.Prelude.{◌≡◌, All, IfErr, IfOk};
 ghost use Rattle.wu_loader.specs.Whole.{rows_of, IsIn, IsNoRow, UnlessMemory};
 
-use crate::finding::{LoadedTable, NoWorld, WrongRow};
+use crate::finding::{NoWorld, WrongRow};
 use crate::rows::FromRow;
 use sqlite::Row;
 use std::alloc::Global;
 use wu_core::Fault;
+use wu_schema::ProjectTable;
 
 /// Returns the values that the rows of a table represent, or the first row that represents none.
 pub(crate) fn all_from<T: FromRow + Drop>(
     alloc: Global,
-    table: LoadedTable,
+    table: ProjectTable,
     rows: &[Row],
 ) -> Result<Vec<T>, NoWorld>
     // After `Ok` the rows are those of these values, by their places from 1.

@@ -9,13 +9,14 @@ ghost use Rattle.wu_loader.specs.Wrongs.{AreWorkunits, IsWrongWork};
 ghost use Rattle.wu_loader.specs.First.{AreResults};
 
 use crate::dealing::{deal, sort};
-use crate::finding::{LoadedTable, NoWorld};
+use crate::finding::NoWorld;
 use crate::rows::Placed;
 use crate::whole::all_from;
 use sqlite::Row;
 use std::alloc::Global;
 use std::collections::VecDeque;
 use wu_core::Workunit;
+use wu_schema::ProjectTable;
 
 /// Returns the workunits of these rows, with the instances of those. It gives the memory of the rows back as soon as
 /// they are read.
@@ -40,9 +41,9 @@ pub(crate) fn works_from(
     ensures told { IfErr result (λ reason. UnlessMemory reason
         (IsWrongWork rows.items instances.items)) }
 {
-    let workunits = all_from::<Workunit>(alloc, LoadedTable::Workunit, &rows)?;
+    let workunits = all_from::<Workunit>(alloc, ProjectTable::Workunit, &rows)?;
     drop(rows);
-    let mut placed = all_from::<Placed>(alloc, LoadedTable::Result, &instances)?;
+    let mut placed = all_from::<Placed>(alloc, ProjectTable::Result, &instances)?;
     drop(instances);
     sort(&mut placed)?;
     let queue = VecDeque::from(placed);

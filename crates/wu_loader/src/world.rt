@@ -13,7 +13,7 @@ ghost use Rattle.wu_loader.specs.declared.finding.NoWorld.TheVariants.{Wrong};
 ghost use Rattle.wu_loader.specs.declared.rows.ProjectRow.{ProjectRow};
 
 use crate::classes::{host_classes, with_classes, without_classes};
-use crate::finding::{LoadedTable, NoWorld, WrongRow};
+use crate::finding::{NoWorld, WrongRow};
 use crate::hosts::know_hosts;
 use crate::rows::{Classed, FromRow, ProjectRow};
 use crate::tables::{ClassRows, PlainRows, TableRows};
@@ -23,13 +23,14 @@ use sqlite::Row;
 use std::alloc::Global;
 use wu_audit::{Imported, Loaded};
 use wu_core::{Archived, Fault, Grant, HostClass, Workunit};
+use wu_schema::ProjectTable;
 
 /// Returns the report of this place in the table of the project.
 fn wrong_project(place: u64) -> NoWorld
-    ensures { result ≡ Wrong (record { table = LoadedTable.Project; place = place }) }
+    ensures { result ≡ Wrong (record { table = ProjectTable.Project; place = place }) }
 {
     NoWorld::Wrong(WrongRow {
-        table: LoadedTable::Project,
+        table: ProjectTable::Project,
         place,
     })
 }
@@ -42,7 +43,7 @@ fn first_project(alloc: Global, rows: &[Row]) -> Result<ProjectRow, NoWorld>
     ensures stored { IfOk result IsStoredProject }
     // The first place is reported, and no row of a project is there.
     ensures none { IfErr result (λ reason. UnlessMemory reason (λ wrong.
-        IsIn LoadedTable.Project (λ place. (place ≡ 1) × LacksProject rows.now) wrong)) }
+        IsIn ProjectTable.Project (λ place. (place ≡ 1) × LacksProject rows.now) wrong)) }
 {
     match rows {
         [] => Err(wrong_project(1)),
@@ -68,7 +69,7 @@ fn project_from(alloc: Global, version: u64, rows: &[Row]) -> Result<ProjectRow,
         → IsStoredProject project → project.version ≡ version
         → rows.now ≢ project_row project ∷ [])) }
     // The place is the first at which a project of this version has another row, or none.
-    ensures told { IfErr result (λ reason. UnlessMemory reason (IsIn LoadedTable.Project
+    ensures told { IfErr result (λ reason. UnlessMemory reason (IsIn ProjectTable.Project
         (IsWrongProject version rows.now))) }
 {
     let project = first_project(alloc, rows)?;
@@ -110,10 +111,10 @@ fn plain_from(alloc: Global, version: u64, rows: PlainRows) -> Result<Plain, NoW
 {
     let project = project_from(alloc, version, &rows.project)?;
     let workunits = works_from(alloc, rows.workunits, rows.instances)?;
-    let grants = all_from::<Grant>(alloc, LoadedTable::CreditGrant, &rows.grants)?;
+    let grants = all_from::<Grant>(alloc, ProjectTable::Grant, &rows.grants)?;
     know_hosts(alloc, &rows.hosts, &grants)?;
-    let archived = all_from::<Archived>(alloc, LoadedTable::Archived, &rows.archived)?;
-    let imports = all_from::<Imported>(alloc, LoadedTable::Import, &rows.imports)?;
+    let archived = all_from::<Archived>(alloc, ProjectTable::Archived, &rows.archived)?;
+    let imports = all_from::<Imported>(alloc, ProjectTable::Import, &rows.imports)?;
     Ok(Plain {
         project,
         workunits,
@@ -156,7 +157,7 @@ fn classes_from(
         });
     };
     let hosts = host_classes(alloc, &rows.hosts)?;
-    let classes = all_from::<Classed>(alloc, LoadedTable::WorkunitClass, &rows.workunits)?;
+    let classes = all_from::<Classed>(alloc, ProjectTable::WorkunitClass, &rows.workunits)?;
     let workunits = with_classes(alloc, workunits, &classes)?;
     Ok(WithClasses { workunits, hosts })
 }

@@ -1,5 +1,5 @@
 -- What stands of a session after each exit of a command.
-use Rattle.std.proofs.Common.{arith, refl, ◌≡◌, ◌≢◌, ◌≤◌, ◌⊎◌, Bool, true, false, List, [], ◌∷◌, length, Result, Ok, Err, IfErr, IsTrue, OnOk, sym, ap, subst, ◌∙◌, inl, inr}
+use Rattle.std.proofs.Common.{arith, refl, ◌≡◌, ◌≢◌, ◌≤◌, ◌⊎◌, Bool, true, false, List, [], ◌∷◌, Result, Ok, Err, IfErr, IsTrue, OnOk, sym, ap, subst, ◌∙◌, inl, inr}
 use Rattle.sqlite.specs.Effect.{Database}
 use Rattle.sqlite.specs.State.{State, HasCleanDisk, Survives}
 use Rattle.sqlite_trees.specs.View.{doubt}
@@ -26,11 +26,6 @@ use Rattle.wu_passes.specs.Standing.{GoesOn, HasEnded, IsCutBy, KeepsOpen, Keeps
 use Rattle.wu_plans.specs.declared.plan.Plan.{Plan}
 use Rattle.wu_machine.specs.declared.command.Answer.{Answer}
 use Rattle.wu_store.specs.declared.changes.Change.{Change}
-
--- a list of none
-pub no_changes : {X : Type 0} (xs : List X) → length xs ≡ 0 → xs ≡ []
-no_changes [] none = refl
-no_changes (x ∷ xs) none = absurd (omega (arith, none))
 
 -- a call that reads
 pub shows_back : (old new : State) (world : World) → IsBack old new → ShowsWorld old world → ShowsWorld new world

@@ -28,14 +28,16 @@ pub fn plan_upgrade<'a, S: Alter>(
     ensures reads { PlansWorld S.Store conn.old conn.new result (PlansUpgrade version)
         (IsOfVersion version) }
 {
-    let answer = Answer::Upgraded {
-        from: version,
-        to: PRESENT_VERSION,
-    };
     let mut changes = Vec::new(alloc);
     if version < PRESENT_VERSION {
         let rows = load_marks(conn, alloc)?;
         changes.push(Change::Upgrade(version, rows))?;
     }
-    Ok(Plan { answer, changes })
+    Ok(Plan {
+        answer: Answer::Upgraded {
+            from: version,
+            to: PRESENT_VERSION,
+        },
+        changes,
+    })
 }

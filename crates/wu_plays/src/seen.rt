@@ -2,7 +2,7 @@
 
 use crate::sessions::{adopt, views};
 use anyhow::Result;
-use sqlite::{Alter, Connection};
+use sqlite::{Alter, Connection, Row};
 use std::alloc::{AllocError, Global};
 use std::io::{self, Write};
 use std::str;
@@ -79,6 +79,16 @@ fn write_missing(sign: char, text: &str, other: &str, transcript: &mut Vec<u8>) 
     Ok(())
 }
 
+/// Writes a row of a table: the name, and each value.
+fn write_row(name: &str, row: &Row, out: &mut Vec<u8>) -> Result<()> {
+    write!(out, "{name}")?;
+    for at in 0..row.column_count() {
+        write!(out, " {:?}", row.get_ref(at)?)?;
+    }
+    writeln!(out)?;
+    Ok(())
+}
+
 /// Writes every row of a table, in the order of its first two columns.
 fn write_table<S: Alter>(
     alloc: Global,
@@ -88,11 +98,7 @@ fn write_table<S: Alter>(
 ) -> Result<()> {
     let sql = format!(in alloc; "SELECT * FROM {name} ORDER BY 1, 2")?;
     for row in conn.query_all(sql.as_str(), &[])? {
-        write!(out, "{name}")?;
-        for at in 0..row.column_count() {
-            write!(out, " {:?}", row.get_ref(at)?)?;
-        }
-        writeln!(out)?;
+        write_row(name, &row, out)?;
     }
     Ok(())
 }

@@ -63,6 +63,15 @@ fn show_each<S: Alter>(
     Ok(())
 }
 
+/// Runs these lines, none of which may end with a fault.
+fn do_all<S: Alter>(alloc: Global, project: &mut Project<S>, steps: &[Step]) -> Result<()> {
+    for step in steps {
+        let end = do_action(alloc, project, Some(&step.action));
+        ensure!(end.is_none(), "line {} ends with a fault", step.number);
+    }
+    Ok(())
+}
+
 /// Runs all lines except the last over the project in a database, and prints the view of the last line in each way.
 fn play_over<S: Alter + Drop>(
     alloc: Global,
@@ -74,10 +83,7 @@ fn play_over<S: Alter + Drop>(
     let Some((last, before)) = steps.split_last() else {
         bail!("no line");
     };
-    for step in before {
-        let end = do_action(alloc, &mut project, Some(&step.action));
-        ensure!(end.is_none(), "line {} ends with a fault", step.number);
-    }
+    do_all(alloc, &mut project, before)?;
     let text = whole(alloc, &mut project, &last.action)?;
     show_each(alloc, &mut project, &last.action, text.as_slice())?;
     transcript.write_all(text.as_slice())?;

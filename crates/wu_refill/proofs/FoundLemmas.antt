@@ -21,11 +21,12 @@ use Rattle.wu_machine.specs.Sound.{IsSound}
 use Rattle.wu_schema.specs.Calls.{OnAnswer}
 use Rattle.wu_schema.specs.Refines.{Refines}
 use Rattle.wu_schema.specs.Stored.{stored_workunit}
-use Rattle.wu_schema.specs.Tables.{HasTables}
+use Rattle.wu_schema.specs.ProjectTables.{HasTables}
 use Rattle.wu_schema.specs.Versions.{AnswersVersion}
 use Rattle.wu_store.proofs.SameWorld.{one_world}
 use Rattle.wu_tables.specs.Others.{HasOnlyAProject}
 use Rattle.wu_refill.specs.Loading.{FindsAlone, FindsSound, FindsTheirs, KeepsSoundWorld}
+use Rattle.wu_schema.specs.declared.table.ProjectTable.TheVariants as the_table
 
 -- the values of a sound world of the present version are such as rows are read as
 readable : (world : World) → IsSound world → IsUpToDate world → IsReadable world
@@ -70,7 +71,7 @@ module _ (db : Database) (world : World) (stands : Refines db world) where
     arranged = subst (λ version. AreArranged version db.trees stands.trees) is (stands_arranged db stands.trees world stands.rows);
   }
 
-  whole : AreWhole 15 (db.trees stands.trees.workunit)
+  whole : AreWhole 15 (db.trees (stands.trees the_table.Workunit))
   whole = subst (AreWhole 15) (sym stands.rows.workunits.same) (all_whole 15 stored_workunit (λ w. refl) world.workunits)
 
 pub finds_sound : {S : Type 0} → SoundInAnyOrder → (g : Ghosts S) (old new : Held S) (it : Found) → FindsWorld present_version g old new (Ok it) → FindsNone present_version g old new (Ok it)

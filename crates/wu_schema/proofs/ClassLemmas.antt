@@ -9,7 +9,10 @@ use Rattle.wu_schema.specs.Queue.{HasQueue}
 use Rattle.wu_schema.specs.Tables.{IsClassedVersion, queue_at}
 use Rattle.wu_schema.proofs.BesideLemmas.{puts_beside}
 use Rattle.wu_schema.proofs.MadeLemmas.{IsListed, all_add, all_grow, all_in, no_list}
-use Rattle.wu_schema.proofs.Parts.{Archive, Grants, HasParts, Holds, HostClasses, Hosts, Imports, Instances, IsIn, Keeps, Part, Project, WorkClasses, Workunits, is_part, keeps_calm, rows_stand, same_part, table_of, tree_in}
+use Rattle.wu_schema.proofs.Parts.{HasParts, Holds, Keeps, is_part, keeps_calm, rows_stand, same_part, table_of}
+use Rattle.wu_schema.specs.declared.table.ProjectTable.{ProjectTable}
+use Rattle.wu_schema.specs.declared.table.ProjectTable.TheVariants as the_table
+use Rattle.wu_schema.specs.ProjectTables.{IsTableOf}
 use Rattle.wu_schema.proofs.QueueLemmas.{queue_over, queue_still}
 use Rattle.wu_schema.proofs.StandsLemmas.{but_one, is_there, lists_still}
 use Rattle.wu_schema.proofs.StandsOver.{stands_over, tables_are}
@@ -39,10 +42,10 @@ classes_are_made old new h =
 -- ---- beside a world of an older version
 
 -- no table that an older version has is called so
-no_part : (version : ℕ) (t : ProjectTrees) → ¬ IsClassedVersion version → (p : Part) → IsIn p version → (bytes_eq (table_of t p).name (codes "host_class") ≡ false) × (bytes_eq (table_of t p).name (codes "workunit_class") ≡ false)
-no_part version t older HostClasses is_in = absurd (older is_in)
-no_part version t older WorkClasses is_in = absurd (older is_in)
-no_part version t older Project is_in = (refl, refl)
+no_part : (version : ℕ) (t : ProjectTrees) → ¬ IsClassedVersion version → (p : ProjectTable) → IsTableOf p version → (bytes_eq (table_of t p).name (codes "host_class") ≡ false) × (bytes_eq (table_of t p).name (codes "workunit_class") ≡ false)
+no_part version t older the_table.HostClass is_in = absurd (older is_in)
+no_part version t older the_table.WorkunitClass is_in = absurd (older is_in)
+no_part version t older the_table.Project is_in = (refl, refl)
 no_part version t older _ is_in = (refl, refl)
 
 -- a row that is put in leaves a queue
@@ -88,18 +91,20 @@ unbound_rows (w ∷ ws) none = λ i. class_row (w.number, sym none.0 i) ∷ unbo
 
 module _ (old : Database) (world : World) (s : Refines old world) (older : ¬ IsClassedVersion world.version) (c : HasClassTables old (unbound_in world)) where
   abbrev trees : ProjectTrees
-  trees = record s.trees { host_class = c.host_class; workunit_class = c.workunit_class }
+  trees the_table.HostClass = c.host_class
+  trees the_table.WorkunitClass = c.workunit_class
+  trees which = s.trees which
 
   there : HasParts 3 old.schema trees
-  there Project is_in = s.tables.project
-  there Workunits is_in = s.tables.workunit
-  there Instances is_in = s.tables.result
-  there Grants is_in = s.tables.grant
-  there Hosts is_in = s.tables.host
-  there Archive is_in = s.tables.archived
-  there Imports is_in = s.tables.import
-  there HostClasses is_in = c.hosts
-  there WorkClasses is_in = c.workunits
+  there the_table.Project is_in = (s.tables.each the_table.Project tt)
+  there the_table.Workunit is_in = (s.tables.each the_table.Workunit tt)
+  there the_table.Result is_in = (s.tables.each the_table.Result tt)
+  there the_table.Grant is_in = (s.tables.each the_table.Grant tt)
+  there the_table.Host is_in = (s.tables.each the_table.Host tt)
+  there the_table.Archived is_in = (s.tables.each the_table.Archived tt)
+  there the_table.Import is_in = (s.tables.each the_table.Import tt)
+  there the_table.HostClass is_in = c.hosts
+  there the_table.WorkunitClass is_in = c.workunits
 
   no_cells : HoldsAll (old.trees c.host_class) (map class_cells world.classes)
   no_cells =
@@ -107,25 +112,25 @@ module _ (old : Database) (world : World) (s : Refines old world) (older : ¬ Is
       subst (λ rows. HoldsAll rows (map class_cells world.classes)) (sym c.none) (subst (λ (cs : List HostClass). HoldsAll [] (map class_cells cs)) (sym (s.rows.classless older).hosts) empty)
 
   -- but for the row of the project, the rows are those of the world at that version
-  held : (p : Part) → is_part Project p ≡ false → Holds p (old.trees (tree_in trees p)) (with_classes world)
-  held Project off = absurd (cc)
-  held Workunits off = s.rows.workunits
-  held Instances off = s.rows.instances
-  held Grants off = s.rows.grants
-  held Hosts off = s.rows.hosts
-  held Archive off = s.rows.archived
-  held Imports off = (s.rows.imports, s.rows.imported_once, s.rows.imports_kept)
-  held HostClasses off = (no_cells, s.rows.classes_in_order)
-  held WorkClasses off = subst (ListsAll (old.trees c.workunit_class)) (unbound_rows world.workunits (s.rows.classless older).workunits) c.rows
+  held : (p : ProjectTable) → is_part the_table.Project p ≡ false → Holds p (old.trees (trees p)) (with_classes world)
+  held the_table.Project off = absurd (cc)
+  held the_table.Workunit off = s.rows.workunits
+  held the_table.Result off = s.rows.instances
+  held the_table.Grant off = s.rows.grants
+  held the_table.Host off = s.rows.hosts
+  held the_table.Archived off = s.rows.archived
+  held the_table.Import off = (s.rows.imports, s.rows.imported_once, s.rows.imports_kept)
+  held the_table.HostClass off = (no_cells, s.rows.classes_in_order)
+  held the_table.WorkunitClass off = subst (ListsAll (old.trees c.workunit_class)) (unbound_rows world.workunits (s.rows.classless older).workunits) c.rows
 
-  module _ (new : Database) (same : new.schema ≡ old.schema) (is : new.trees s.trees.project ≡ stored_project (with_classes world) ∷ [])
-      (others : (t : Table) → Has old.schema.tables t → t.tree ≢ s.trees.project → IsCalm old.schema Enforced t s.trees.project → new.trees t.tree ≡ old.trees t.tree) (sound : IsDatabase new) where
-    keeps : Keeps 3 trees old new (is_part Project)
-    keeps = keeps_calm 3 old trees there new Project tt refl others
+  module _ (new : Database) (same : new.schema ≡ old.schema) (is : new.trees (s.trees the_table.Project) ≡ stored_project (with_classes world) ∷ [])
+      (others : (t : Table) → Has old.schema.tables t → t.tree ≢ (s.trees the_table.Project) → IsCalm old.schema Enforced t (s.trees the_table.Project) → new.trees t.tree ≡ old.trees t.tree) (sound : IsDatabase new) where
+    keeps : Keeps 3 trees old new (is_part the_table.Project)
+    keeps = keeps_calm 3 old trees there new the_table.Project tt refl others
 
-    now_held : (p : Part) → IsIn p 3 → Holds p (new.trees (tree_in trees p)) (with_classes world)
-    now_held p is_in = elim (cases_Bool (is_part Project p)) [
-      | inl on ↦ subst (λ q. Holds q (new.trees (tree_in trees q)) (with_classes world)) (same_part Project p on) is
+    now_held : (p : ProjectTable) → IsTableOf p 3 → Holds p (new.trees (trees p)) (with_classes world)
+    now_held p is_in = elim (cases_Bool (is_part the_table.Project p)) [
+      | inl on ↦ subst (λ q. Holds q (new.trees (trees q)) (with_classes world)) (same_part the_table.Project p on) is
       | inr off ↦ subst (λ rows. Holds p rows (with_classes world)) (sym (keeps p is_in off)) (held p off)
     ]
 

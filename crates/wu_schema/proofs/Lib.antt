@@ -19,6 +19,7 @@ pub mod ToldLemmas
 pub mod TakenLemmas
 pub mod PutLemmas
 pub mod StandsLemmas
+pub mod TableOrder
 pub mod Parts
 pub mod CreateLemmas
 pub mod CreateEffect

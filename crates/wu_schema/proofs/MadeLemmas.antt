@@ -3,7 +3,10 @@ use Rattle.wu_schema.proofs.Words.{Database, Has, HasMade, HasNamed, HasTable, H
 use Rattle.wu_core.specs.World.{empty_world}
 use Rattle.wu_schema.specs.Made.{AreFree, MakesAll, Named, MakesEmpty, IsSequence, keys_of, work_tables, record_tables, class_tables, names_of, project_tables}
 use Rattle.wu_schema.proofs.StandsLemmas.{but_one, is_there}
-use Rattle.wu_schema.proofs.Parts.{Part, Project, Workunits, Instances, Grants, Hosts, Archive, Imports, HostClasses, WorkClasses, none_in_order, HasParts, Holds, IsIn, is_part, keeps_but, name_of, placed, rows_stand, same_part, table_of, tree_in}
+use Rattle.wu_schema.proofs.Parts.{none_in_order, HasParts, Holds, is_part, keeps_but, placed, rows_stand, same_part, table_of}
+use Rattle.wu_schema.specs.declared.table.ProjectTable.{ProjectTable}
+use Rattle.wu_schema.specs.declared.table.ProjectTable.TheVariants as the_table
+use Rattle.wu_schema.specs.ProjectTables.{IsTableOf, name_of}
 use Rattle.wu_schema.proofs.StandsOver.{Grows, ByBytes, grows_same, grows_both, still_named, still_compares, tables_are}
 use Rattle.wu_schema.proofs.FreeLemmas.{all_before}
 use Rattle.wu_schema.proofs.CreateEffect.{index_low, own_table, tree_apart, unguarded}
@@ -118,16 +121,16 @@ no_cells : (rows : List Row) → rows ≡ [] → HoldsAll rows []
 no_cells rows none = subst (λ rs. HoldsAll rs []) (sym none) (record { shaped = (tt, tt); same = IsPermutation-refl [] })
 
 -- an empty world has no rows but that of the project
-none_held : (p : Part) → is_part Project p ≡ false → (rows : List Row) → rows ≡ [] → Holds p rows empty_world
-none_held Project off rows none = absurd (cc)
-none_held Workunits off rows none = no_list rows none
-none_held Instances off rows none = no_cells rows none
-none_held Grants off rows none = no_list rows none
-none_held Hosts off rows none = no_cells rows none
-none_held Archive off rows none = no_list rows none
-none_held Imports off rows none = (no_cells rows none, tt, tt)
-none_held HostClasses off rows none = (no_cells rows none, none_in_order [] refl)
-none_held WorkClasses off rows none = no_list rows none
+none_held : (p : ProjectTable) → is_part the_table.Project p ≡ false → (rows : List Row) → rows ≡ [] → Holds p rows empty_world
+none_held the_table.Project off rows none = absurd (cc)
+none_held the_table.Workunit off rows none = no_list rows none
+none_held the_table.Result off rows none = no_cells rows none
+none_held the_table.Grant off rows none = no_list rows none
+none_held the_table.Host off rows none = no_cells rows none
+none_held the_table.Archived off rows none = no_list rows none
+none_held the_table.Import off rows none = (no_cells rows none, tt, tt)
+none_held the_table.HostClass off rows none = (no_cells rows none, none_in_order [] refl)
+none_held the_table.WorkunitClass off rows none = no_list rows none
 
 -- ---- all of it
 
@@ -136,36 +139,44 @@ first_row = stored_project empty_world
 
 module _ (old end new : Database) (h : MakesAll old end project_tables) (put : PutsOne end new (next_tree old.schema) first_row) where
   abbrev trees : ProjectTrees
-  trees = record { project = next_tree old.schema; workunit = next_tree h.0.schema; result = next_tree h.2.0.schema; grant = next_tree h.2.2.0.schema; host = next_tree h.2.2.2.0.schema; archived = next_tree h.2.2.2.2.0.schema; import = next_tree h.2.2.2.2.2.0.schema; host_class = next_tree h.2.2.2.2.2.2.0.schema; workunit_class = next_tree h.2.2.2.2.2.2.2.0.schema }
+  trees the_table.Project = next_tree old.schema
+  trees the_table.Workunit = next_tree h.0.schema
+  trees the_table.Result = next_tree h.2.0.schema
+  trees the_table.Grant = next_tree h.2.2.0.schema
+  trees the_table.Host = next_tree h.2.2.2.0.schema
+  trees the_table.Archived = next_tree h.2.2.2.2.0.schema
+  trees the_table.Import = next_tree h.2.2.2.2.2.0.schema
+  trees the_table.HostClass = next_tree h.2.2.2.2.2.2.0.schema
+  trees the_table.WorkunitClass = next_tree h.2.2.2.2.2.2.2.0.schema
 
-  made : (p : Part) → IsMadeIn end (name_of p) (table_of trees p)
+  made : (p : ProjectTable) → IsMadeIn end (name_of p) (table_of trees p)
   made p = by p (all_in old end project_tables h)
     where
-      by : (p : Part) → AreMadeIn old end project_tables h → IsMadeIn end (name_of p) (table_of trees p)
-      by Project all = all.0
-      by Workunits all = all.1.0
-      by Instances all = all.1.1.0
-      by Grants all = all.1.1.1.0
-      by Hosts all = all.1.1.1.1.0
-      by Archive all = all.1.1.1.1.1.0
-      by Imports all = all.1.1.1.1.1.1.0
-      by HostClasses all = all.1.1.1.1.1.1.1.0
-      by WorkClasses all = all.1.1.1.1.1.1.1.1.0
+      by : (p : ProjectTable) → AreMadeIn old end project_tables h → IsMadeIn end (name_of p) (table_of trees p)
+      by the_table.Project all = all.0
+      by the_table.Workunit all = all.1.0
+      by the_table.Result all = all.1.1.0
+      by the_table.Grant all = all.1.1.1.0
+      by the_table.Host all = all.1.1.1.1.0
+      by the_table.Archived all = all.1.1.1.1.1.0
+      by the_table.Import all = all.1.1.1.1.1.1.0
+      by the_table.HostClass all = all.1.1.1.1.1.1.1.0
+      by the_table.WorkunitClass all = all.1.1.1.1.1.1.1.1.0
 
   there : HasParts empty_world.version end.schema trees
   there p is_in = (made p).has
 
-  compares : ByBytes end.schema trees.host
+  compares : ByBytes end.schema (trees the_table.Host)
   compares =
       let hosts = h.2.2.2.2 in
-      still_compares hosts.0 end (all_grow hosts.0 end ((codes "archived", archived_at) ∷ (codes "import", import_at) ∷ class_tables) hosts.2) trees.host (is_there hosts.0.schema _ _ (length h.2.2.2.0.schema.tables, hosts.1.has, hosts.1.owns)) (host_compares h.2.2.2.0 hosts.0 h.2.2.2.1.sound hosts.1)
+      still_compares hosts.0 end (all_grow hosts.0 end ((codes "archived", archived_at) ∷ (codes "import", import_at) ∷ class_tables) hosts.2) (trees the_table.Host) (is_there hosts.0.schema _ _ (length h.2.2.2.0.schema.tables, hosts.1.has, hosts.1.owns)) (host_compares h.2.2.2.0 hosts.0 h.2.2.2.1.sound hosts.1)
 
-  held : (p : Part) → IsIn p empty_world.version → Holds p (new.trees (tree_in trees p)) empty_world
-  held p is_in = elim (cases_Bool (is_part Project p)) [
-    | inl same ↦ subst (λ q. Holds q (new.trees (tree_in trees q)) empty_world) (same_part Project p same) (put.rows ∙ ap (put_row first_row) (made Project).empty)
+  held : (p : ProjectTable) → IsTableOf p empty_world.version → Holds p (new.trees (trees p)) empty_world
+  held p is_in = elim (cases_Bool (is_part the_table.Project p)) [
+    | inl same ↦ subst (λ q. Holds q (new.trees (trees q)) empty_world) (same_part the_table.Project p same) (put.rows ∙ ap (put_row first_row) (made the_table.Project).empty)
     | inr other ↦
-        let empty : end.trees (tree_in trees p) ≡ [] = subst (λ n. end.trees n ≡ []) (placed trees p) (made p).empty in
-        none_held p other _ (keeps_but empty_world.version end trees there new Project tt (but_one end new trees.project first_row put) p is_in other ∙ empty)
+        let empty : end.trees (trees p) ≡ [] = subst (λ n. end.trees n ≡ []) (placed trees p) (made p).empty in
+        none_held p other _ (keeps_but empty_world.version end trees there new the_table.Project tt (but_one end new (trees the_table.Project) first_row put) p is_in other ∙ empty)
   ]
 
   makes_empty : MakesEmpty old new
@@ -178,7 +189,7 @@ module _ (old end new : Database) (h : MakesAll old end project_tables) (put : P
         keeps = record {
           tables = λ t has.
               let still = grows.keeps.tables t has in
-              (subst (λ (s : Schema). Has s.tables t) (sym put.schema) still.0, but_one end new trees.project first_row put t still.0 (tree_apart old.schema t has) ∙ still.1);
+              (subst (λ (s : Schema). Has s.tables t) (sym put.schema) still.0, but_one end new (trees the_table.Project) first_row put t still.0 (tree_apart old.schema t has) ∙ still.1);
           owns = λ t has own. subst (λ (s : Schema). OwnsTree s t) (sym put.schema) (grows.owns t has own);
           indexes = λ i has. subst (λ (s : Schema). Has s.indexes i) (sym put.schema) (grows.keeps.indexes i has);
           views = ap (λ (s : Schema). s.views) put.schema ∙ grows.keeps.views;

@@ -8,102 +8,51 @@ use Rattle.wu_schema.proofs.Words.{AllByRecursion, IsPermutation-refl, IsTable, 
 use Rattle.sqlite_trees.specs.declared.store.Shape.TheVariants as shape
 use Rattle.wu_schema.specs.Refines.{HasRows, LacksClasses, host_of}
 use Rattle.wu_schema.specs.Tables.{IsClassedVersion}
+use Rattle.wu_schema.specs.ProjectTables.{IsTableOf, name_of, table_at}
+use Rattle.wu_schema.specs.declared.table.ProjectTable.{ProjectTable}
+use Rattle.wu_schema.specs.declared.table.ProjectTable.TheVariants as the_table
 use Rattle.wu_schema.proofs.QuietLemmas.{same_some}
 use Rattle.wu_schema.specs.Calm.{IsSteady}
 use Rattle.wu_schema.proofs.CalmLemmas.{calm_bare}
 use Rattle.wu_schema.proofs.StandsLemmas.{is_there, IsChild, ChildrenAre, child_calm, child_steady, refers_by, KeepsBut}
 
--- ---- the parts
+-- ---- the tables
 
-pub data Part : Type 0 where
-  Project : Part
-  Workunits : Part
-  Instances : Part
-  Grants : Part
-  Hosts : Part
-  Archive : Part
-  Imports : Part
-  HostClasses : Part
-  WorkClasses : Part
-
--- the table of a part, in any tree
-abbrev pub table_in : Part → ℕ → Table
-table_in Project = project_at
-table_in Workunits = workunit_at
-table_in Instances = result_at
-table_in Grants = grant_at
-table_in Hosts = host_at
-table_in Archive = archived_at
-table_in Imports = import_at
-table_in HostClasses = host_class_at
-table_in WorkClasses = workunit_class_at
-
--- the tree of a part
-abbrev pub tree_in : ProjectTrees → Part → ℕ
-tree_in t Project = t.project
-tree_in t Workunits = t.workunit
-tree_in t Instances = t.result
-tree_in t Grants = t.grant
-tree_in t Hosts = t.host
-tree_in t Archive = t.archived
-tree_in t Imports = t.import
-tree_in t HostClasses = t.host_class
-tree_in t WorkClasses = t.workunit_class
-
-abbrev pub table_of : ProjectTrees → Part → Table
-table_of t p = table_in p (tree_in t p)
-
-abbrev pub name_of : Part → List ℕ
-name_of p = (table_in p 0).name
+-- the table in the tree where the store put it
+abbrev pub table_of : ProjectTrees → ProjectTable → Table
+table_of t p = table_at p (t p)
 
 -- the rows that a part may have for a world
-abbrev pub Holds : Part → List Row → World → Type 0
-Holds Project rows world = rows ≡ stored_project world ∷ []
-Holds Workunits rows world = ListsAll rows (map stored_workunit world.workunits)
-Holds Instances rows world = HoldsAll rows (flat_map instances_of world.workunits)
-Holds Grants rows world = ListsAll rows (map stored_grant (enumerate_from 1 world.grants))
-Holds Hosts rows world = HoldsAll rows (map (host_of world.grants) (hosts_of world.grants))
-Holds Archive rows world = ListsAll rows (map stored_archived (enumerate_from 1 world.archived))
-Holds Imports rows world = HoldsAll rows (map import_cells world.imports) × IsAscending (λ (a b : Import). is_import a.kind a.name b ≡ false) world.imports × AllByRecursion MayBeKept world.imports
-Holds HostClasses rows world = HoldsAll rows (map class_cells world.classes) × AreInOrder world.classes
-Holds WorkClasses rows world = ListsAll rows (map stored_class world.workunits)
-
--- whether a schema of this version has the part
-abbrev pub IsIn : Part → ℕ → Type 0
-IsIn HostClasses version = IsClassedVersion version
-IsIn WorkClasses version = IsClassedVersion version
-IsIn _ version = ⊤
+abbrev pub Holds : ProjectTable → List Row → World → Type 0
+Holds the_table.Project rows world = rows ≡ stored_project world ∷ []
+Holds the_table.Workunit rows world = ListsAll rows (map stored_workunit world.workunits)
+Holds the_table.Result rows world = HoldsAll rows (flat_map instances_of world.workunits)
+Holds the_table.Grant rows world = ListsAll rows (map stored_grant (enumerate_from 1 world.grants))
+Holds the_table.Host rows world = HoldsAll rows (map (host_of world.grants) (hosts_of world.grants))
+Holds the_table.Archived rows world = ListsAll rows (map stored_archived (enumerate_from 1 world.archived))
+Holds the_table.Import rows world = HoldsAll rows (map import_cells world.imports) × IsAscending (λ (a b : Import). is_import a.kind a.name b ≡ false) world.imports × AllByRecursion MayBeKept world.imports
+Holds the_table.HostClass rows world = HoldsAll rows (map class_cells world.classes) × AreInOrder world.classes
+Holds the_table.WorkunitClass rows world = ListsAll rows (map stored_class world.workunits)
 
 -- ---- they are what stands for a world
 
 -- the tables of the parts that the version has
 abbrev pub HasParts : ℕ → Schema → ProjectTrees → Type 0
-HasParts version schema t = (p : Part) → IsIn p version → HasNamed schema (name_of p) (table_of t p)
-
-pub parts_in : (version : ℕ) (schema : Schema) (t : ProjectTrees) → HasTables version schema t → HasParts version schema t
-parts_in version schema t has Project is_in = has.project
-parts_in version schema t has Workunits is_in = has.workunit
-parts_in version schema t has Instances is_in = has.result
-parts_in version schema t has Grants is_in = has.grant
-parts_in version schema t has Hosts is_in = has.host
-parts_in version schema t has Archive is_in = has.archived
-parts_in version schema t has Imports is_in = has.import
-parts_in version schema t has HostClasses is_in = has.host_class is_in
-parts_in version schema t has WorkClasses is_in = has.workunit_class is_in
+HasParts version schema t = (p : ProjectTable) → IsTableOf p version → HasNamed schema (name_of p) (table_of t p)
 
 abbrev pub parts_there : (db : Database) (world : World) (s : Refines db world) → HasParts world.version db.schema s.trees
-parts_there db world s = parts_in world.version db.schema s.trees s.tables
+parts_there db world s = s.tables.each
 
-pub parts_hold : (db : Database) (world : World) (s : Refines db world) (p : Part) → IsIn p world.version → Holds p (db.trees (tree_in s.trees p)) world
-parts_hold db world s Project is_in = s.rows.project
-parts_hold db world s Workunits is_in = s.rows.workunits
-parts_hold db world s Instances is_in = s.rows.instances
-parts_hold db world s Grants is_in = s.rows.grants
-parts_hold db world s Hosts is_in = s.rows.hosts
-parts_hold db world s Archive is_in = s.rows.archived
-parts_hold db world s Imports is_in = (s.rows.imports, s.rows.imported_once, s.rows.imports_kept)
-parts_hold db world s HostClasses is_in = ((s.rows.classes is_in).hosts, s.rows.classes_in_order)
-parts_hold db world s WorkClasses is_in = (s.rows.classes is_in).workunits
+pub parts_hold : (db : Database) (world : World) (s : Refines db world) (p : ProjectTable) → IsTableOf p world.version → Holds p (db.trees (s.trees p)) world
+parts_hold db world s the_table.Project is_in = s.rows.project
+parts_hold db world s the_table.Workunit is_in = s.rows.workunits
+parts_hold db world s the_table.Result is_in = s.rows.instances
+parts_hold db world s the_table.Grant is_in = s.rows.grants
+parts_hold db world s the_table.Host is_in = s.rows.hosts
+parts_hold db world s the_table.Archived is_in = s.rows.archived
+parts_hold db world s the_table.Import is_in = (s.rows.imports, s.rows.imported_once, s.rows.imports_kept)
+parts_hold db world s the_table.HostClass is_in = ((s.rows.classes is_in).hosts, s.rows.classes_in_order)
+parts_hold db world s the_table.WorkunitClass is_in = (s.rows.classes is_in).workunits
 
 -- a version has classes or has none
 pub classed_or_not : (version : ℕ) → IsClassedVersion version ⊎ (¬ IsClassedVersion version)
@@ -113,25 +62,25 @@ pub none_in_order : (classes : List HostClass) → classes ≡ [] → AreInOrder
 none_in_order classes none = subst AreInOrder (sym none) (λ i j d low high. absurd (omega (arith, high)))
 
 -- and the other way round
-pub rows_stand : (db : Database) (t : ProjectTrees) (world : World) → ((p : Part) → IsIn p world.version → Holds p (db.trees (tree_in t p)) world) → (¬ IsClassedVersion world.version → LacksClasses world) → HasRows db.trees t world
+pub rows_stand : (db : Database) (t : ProjectTrees) (world : World) → ((p : ProjectTable) → IsTableOf p world.version → Holds p (db.trees (t p)) world) → (¬ IsClassedVersion world.version → LacksClasses world) → HasRows db.trees t world
 rows_stand db t world holds classless = record {
-  project = holds Project tt;
-  workunits = holds Workunits tt;
-  instances = holds Instances tt;
-  grants = holds Grants tt;
-  hosts = holds Hosts tt;
-  archived = holds Archive tt;
-  imports = (holds Imports tt).0;
-  imported_once = (holds Imports tt).1;
-  imports_kept = (holds Imports tt).2;
-  classes = λ on. record { hosts = (holds HostClasses on).0; workunits = holds WorkClasses on };
+  project = holds the_table.Project tt;
+  workunits = holds the_table.Workunit tt;
+  instances = holds the_table.Result tt;
+  grants = holds the_table.Grant tt;
+  hosts = holds the_table.Host tt;
+  archived = holds the_table.Archived tt;
+  imports = (holds the_table.Import tt).0;
+  imported_once = (holds the_table.Import tt).1;
+  imports_kept = (holds the_table.Import tt).2;
+  classes = λ on. record { hosts = (holds the_table.HostClass on).0; workunits = holds the_table.WorkunitClass on };
   classless = classless;
-  classes_in_order = elim (classed_or_not world.version) [ inl on ↦ (holds HostClasses on).1 | inr off ↦ none_in_order world.classes (classless off).hosts ];
+  classes_in_order = elim (classed_or_not world.version) [ inl on ↦ (holds the_table.HostClass on).1 | inr off ↦ none_in_order world.classes (classless off).hosts ];
 }
 
 -- over the same schema
 pub all_stand : (old new : Database) (world after : World) (s : Refines old world) → new.schema ≡ old.schema → after.version ≡ world.version
-    → ((p : Part) → IsIn p after.version → Holds p (new.trees (tree_in s.trees p)) after) → (¬ IsClassedVersion after.version → LacksClasses after) → IsDatabase new → Refines new after
+    → ((p : ProjectTable) → IsTableOf p after.version → Holds p (new.trees (s.trees p)) after) → (¬ IsClassedVersion after.version → LacksClasses after) → IsDatabase new → Refines new after
 all_stand old new world after s same version holds classless sound = record {
   trees = s.trees;
   tables = subst (λ v. HasTables v new.schema s.trees) (sym version) (subst (λ (x : Schema). HasTables world.version x s.trees) (sym same) s.tables);
@@ -141,135 +90,135 @@ all_stand old new world after s same version holds classless sound = record {
 
 -- ---- no two parts have one name
 
-abbrev by_name : List ℕ → Part
+abbrev by_name : List ℕ → ProjectTable
 by_name name =
-    if bytes_eq name (codes "project") then Project
-    else if bytes_eq name (codes "workunit") then Workunits
-    else if bytes_eq name (codes "result") then Instances
-    else if bytes_eq name (codes "credit_grant") then Grants
-    else if bytes_eq name (codes "host") then Hosts
-    else if bytes_eq name (codes "archived") then Archive
-    else if bytes_eq name (codes "import") then Imports
-    else if bytes_eq name (codes "host_class") then HostClasses
-    else WorkClasses
+    if bytes_eq name (codes "project") then the_table.Project
+    else if bytes_eq name (codes "workunit") then the_table.Workunit
+    else if bytes_eq name (codes "result") then the_table.Result
+    else if bytes_eq name (codes "credit_grant") then the_table.Grant
+    else if bytes_eq name (codes "host") then the_table.Host
+    else if bytes_eq name (codes "archived") then the_table.Archived
+    else if bytes_eq name (codes "import") then the_table.Import
+    else if bytes_eq name (codes "host_class") then the_table.HostClass
+    else the_table.WorkunitClass
 
-found_again : (p : Part) → by_name (name_of p) ≡ p
-found_again Project = refl
+found_again : (p : ProjectTable) → by_name (name_of p) ≡ p
+found_again the_table.Project = refl
 found_again _ = refl
 
 -- whether it is this part
-abbrev pub is_part : Part → Part → Bool
+abbrev pub is_part : ProjectTable → ProjectTable → Bool
 is_part p q = bytes_eq (name_of p) (name_of q)
 
-pub same_part : (p q : Part) → is_part p q ≡ true → p ≡ q
+pub same_part : (p q : ProjectTable) → is_part p q ≡ true → p ≡ q
 same_part p q same = sym (found_again p) ∙ ap by_name ((bytes_eq-Decides (name_of p) (name_of q)).0 same) ∙ found_again q
 
-named : (t : ProjectTrees) (p : Part) → (table_of t p).name ≡ name_of p
-named t Project = refl
+named : (t : ProjectTrees) (p : ProjectTable) → (table_of t p).name ≡ name_of p
+named t the_table.Project = refl
 named t _ = refl
 
-pub placed : (t : ProjectTrees) (p : Part) → (table_of t p).tree ≡ tree_in t p
-placed t Project = refl
+pub placed : (t : ProjectTrees) (p : ProjectTable) → (table_of t p).tree ≡ t p
+placed t the_table.Project = refl
 placed t _ = refl
 
 -- ---- the children of the workunits
 
 -- the column by which the rows of a part refer to their workunits
-abbrev pub child_column : Part → Option ℕ
-child_column Instances = Some 1
-child_column WorkClasses = Some 0
+abbrev pub child_column : ProjectTable → Option ℕ
+child_column the_table.Result = Some 1
+child_column the_table.WorkunitClass = Some 0
 child_column _ = None
 
 -- what goes with a workunit, and the workunits themselves
-abbrev pub falls_with_work : Part → Bool
-falls_with_work p = is_part Workunits p || is_some (child_column p)
+abbrev pub falls_with_work : ProjectTable → Bool
+falls_with_work p = is_part the_table.Workunit p || is_some (child_column p)
 
 abbrev references_by : Option ℕ → List Reference
 references_by None = []
 references_by (Some c) = refers_by c ∷ []
 
-references_in : (t : ProjectTrees) (p : Part) → (table_of t p).references ≡ references_by (child_column p)
-references_in t Project = refl
+references_in : (t : ProjectTrees) (p : ProjectTable) → (table_of t p).references ≡ references_by (child_column p)
+references_in t the_table.Project = refl
 references_in t _ = refl
 
 -- the store keeps each child as a table
-pub child_shaped : (p : Part) (c : ℕ) (rows : List Row) (world : World) → child_column p ≡ Some c → Holds p rows world → IsShaped shape.Table rows
-child_shaped Instances c rows world is h = h.shaped
-child_shaped WorkClasses c rows world is h = h.shaped
+pub child_shaped : (p : ProjectTable) (c : ℕ) (rows : List Row) (world : World) → child_column p ≡ Some c → Holds p rows world → IsShaped shape.Table rows
+child_shaped the_table.Result c rows world is h = h.shaped
+child_shaped the_table.WorkunitClass c rows world is h = h.shaped
 child_shaped _ c rows world is h = absurd (cc)
 
 -- ---- what a change leaves alone
 
 -- the parts that a change does not touch have the rows that they had
-abbrev pub Keeps : ℕ → ProjectTrees → Database → Database → (Part → Bool) → Type 0
-Keeps version t old new touched = (q : Part) → IsIn q version → touched q ≡ false → new.trees (tree_in t q) ≡ old.trees (tree_in t q)
+abbrev pub Keeps : ℕ → ProjectTrees → Database → Database → (ProjectTable → Bool) → Type 0
+Keeps version t old new touched = (q : ProjectTable) → IsTableOf q version → touched q ≡ false → new.trees (t q) ≡ old.trees (t q)
 
 -- one change after another
-pub keeps_both : (version : ℕ) (t : ProjectTrees) (old mid new : Database) (a b : Part → Bool) → Keeps version t old mid a → Keeps version t mid new b → Keeps version t old new (λ q. a q || b q)
+pub keeps_both : (version : ℕ) (t : ProjectTrees) (old mid new : Database) (a b : ProjectTable → Bool) → Keeps version t old mid a → Keeps version t mid new b → Keeps version t old new (λ q. a q || b q)
 keeps_both version t old mid new a b first second q is_in off = let parts = either_false (a q) (b q) off in second q is_in parts.1 ∙ first q is_in parts.0
 
 module _ (version : ℕ) (old : Database) (t : ProjectTrees) (there : HasParts version old.schema t) where
-  pub stands_in : (p : Part) → IsIn p version → Has old.schema.tables (table_of t p)
+  pub stands_in : (p : ProjectTable) → IsTableOf p version → Has old.schema.tables (table_of t p)
   stands_in p is_in = is_there old.schema (name_of p) (table_of t p) (there p is_in)
 
-  child_there : (p : Part) (c : ℕ) → IsIn p version → child_column p ≡ Some c → IsChild old.schema (table_of t p) c
+  child_there : (p : ProjectTable) (c : ℕ) → IsTableOf p version → child_column p ≡ Some c → IsChild old.schema (table_of t p) c
   child_there p c is_in is = record { listed = stands_in p is_in; owns = (there p is_in).2; refers = references_in t p ∙ ap references_by is }
 
   -- two parts have two trees
-  pub apart : (p q : Part) → IsIn p version → IsIn q version → is_part p q ≡ false → tree_in t q ≢ tree_in t p
+  pub apart : (p q : ProjectTable) → IsTableOf p version → IsTableOf q version → is_part p q ≡ false → t q ≢ t p
   apart p q in_p in_q other same =
       let e : table_of t p ≡ table_of t q = same_some (sym (there p in_p).1.stands ∙ ap (λ n. find (λ (u : Table). u.tree == n) old.schema.tables) (placed t p ∙ sym same ∙ sym (placed t q)) ∙ (there q in_q).1.stands) in
       let one : name_of p ≡ name_of q = sym (named t p) ∙ ap (λ (u : Table). u.name) e ∙ named t q in
       absurd (let f = sym ((bytes_eq-Decides (name_of p) (name_of q)).1 one) ∙ other in cc)
 
-  table_apart : (p q : Part) → IsIn p version → IsIn q version → is_part p q ≡ false → (table_of t q).tree ≢ tree_in t p
+  table_apart : (p q : ProjectTable) → IsTableOf p version → IsTableOf q version → is_part p q ≡ false → (table_of t q).tree ≢ t p
   table_apart p q in_p in_q other same = apart p q in_p in_q other (sym (placed t q) ∙ same)
 
-  pub kept : (new : Database) (q : Part) → new.trees (table_of t q).tree ≡ old.trees (table_of t q).tree → new.trees (tree_in t q) ≡ old.trees (tree_in t q)
+  pub kept : (new : Database) (q : ProjectTable) → new.trees (table_of t q).tree ≡ old.trees (table_of t q).tree → new.trees (t q) ≡ old.trees (t q)
   kept new q same = subst (λ n. new.trees n ≡ old.trees n) (placed t q) same
 
   -- where each other tree is kept
-  pub keeps_but : (new : Database) (p : Part) → IsIn p version → KeepsBut old new (tree_in t p) → Keeps version t old new (is_part p)
+  pub keeps_but : (new : Database) (p : ProjectTable) → IsTableOf p version → KeepsBut old new (t p) → Keeps version t old new (is_part p)
   keeps_but new p in_p but q in_q other = kept new q (but (table_of t q) (stands_in q in_q) (table_apart p q in_p in_q other))
 
   -- nothing leads to a part from another tree than that of the workunits
-  pub calm_from : (source : ℕ) → t.workunit ≢ source → (q : Part) → IsIn q version → IsCalm old.schema Enforced (table_of t q) source
+  pub calm_from : (source : ℕ) → (t the_table.Workunit) ≢ source → (q : ProjectTable) → IsTableOf q version → IsCalm old.schema Enforced (table_of t q) source
   calm_from source other q in_q = by (child_column q) refl
     where
       by : (o : Option ℕ) → child_column q ≡ o → IsCalm old.schema Enforced (table_of t q) source
       by None bare = calm_bare old.schema (table_of t q) source (there q in_q).2 (references_in t q ∙ ap references_by bare)
-      by (Some c) is = child_calm old.schema t.workunit (there Workunits tt) (table_of t q) c (child_there q c in_q is) source other
+      by (Some c) is = child_calm old.schema (t the_table.Workunit) (there the_table.Workunit tt) (table_of t q) c (child_there q c in_q is) source other
 
-  calm : (p q : Part) → IsIn p version → IsIn q version → is_part p Workunits ≡ false → IsCalm old.schema Enforced (table_of t q) (tree_in t p)
-  calm p q in_p in_q none = calm_from (tree_in t p) (apart p Workunits in_p tt none) q in_q
+  calm : (p q : ProjectTable) → IsTableOf p version → IsTableOf q version → is_part p the_table.Workunit ≡ false → IsCalm old.schema Enforced (table_of t q) (t p)
+  calm p q in_p in_q none = calm_from (t p) (apart p the_table.Workunit in_p tt none) q in_q
 
   -- where each other tree is kept to which no actions lead
-  pub keeps_calm : (new : Database) (p : Part) → IsIn p version → is_part p Workunits ≡ false
-      → ((u : Table) → Has old.schema.tables u → u.tree ≢ tree_in t p → IsCalm old.schema Enforced u (tree_in t p) → new.trees u.tree ≡ old.trees u.tree) → Keeps version t old new (is_part p)
+  pub keeps_calm : (new : Database) (p : ProjectTable) → IsTableOf p version → is_part p the_table.Workunit ≡ false
+      → ((u : Table) → Has old.schema.tables u → u.tree ≢ t p → IsCalm old.schema Enforced u (t p) → new.trees u.tree ≡ old.trees u.tree) → Keeps version t old new (is_part p)
   keeps_calm new p in_p none others q in_q other = kept new q (others (table_of t q) (stands_in q in_q) (table_apart p q in_p in_q other) (calm p q in_p in_q none))
 
   -- where rows of the workunits are set
-  pub keeps_set : (new : Database) → ((u : Table) → Has old.schema.tables u → u.tree ≢ t.workunit → IsCalm old.schema Enforced u t.workunit → new.trees u.tree ≡ old.trees u.tree)
-      → ((u : Table) → Has old.schema.tables u → u.tree ≢ t.workunit → IsSteady old.schema Enforced u → new.trees u.tree ≡ old.trees u.tree) → Keeps version t old new (is_part Workunits)
+  pub keeps_set : (new : Database) → ((u : Table) → Has old.schema.tables u → u.tree ≢ (t the_table.Workunit) → IsCalm old.schema Enforced u (t the_table.Workunit) → new.trees u.tree ≡ old.trees u.tree)
+      → ((u : Table) → Has old.schema.tables u → u.tree ≢ (t the_table.Workunit) → IsSteady old.schema Enforced u → new.trees u.tree ≡ old.trees u.tree) → Keeps version t old new (is_part the_table.Workunit)
   keeps_set new others steady q in_q other = kept new q (by (child_column q) refl)
     where
-      off : (table_of t q).tree ≢ t.workunit
-      off = table_apart Workunits q tt in_q other
+      off : (table_of t q).tree ≢ (t the_table.Workunit)
+      off = table_apart the_table.Workunit q tt in_q other
 
       by : (o : Option ℕ) → child_column q ≡ o → new.trees (table_of t q).tree ≡ old.trees (table_of t q).tree
-      by None bare = others (table_of t q) (stands_in q in_q) off (calm_bare old.schema (table_of t q) t.workunit (there q in_q).2 (references_in t q ∙ ap references_by bare))
-      by (Some c) is = steady (table_of t q) (stands_in q in_q) off (child_steady old.schema t.workunit (there Workunits tt) (table_of t q) c (child_there q c in_q is))
+      by None bare = others (table_of t q) (stands_in q in_q) off (calm_bare old.schema (table_of t q) (t the_table.Workunit) (there q in_q).2 (references_in t q ∙ ap references_by bare))
+      by (Some c) is = steady (table_of t q) (stands_in q in_q) off (child_steady old.schema (t the_table.Workunit) (there the_table.Workunit tt) (table_of t q) c (child_there q c in_q is))
 
   -- where each tree is kept that has no references, as when a workunit goes
-  pub keeps_bare : (new : Database) → ((u : Table) → Has old.schema.tables u → OwnsTree old.schema u → u.tree ≢ t.workunit → u.references ≡ [] → new.trees u.tree ≡ old.trees u.tree) → Keeps version t old new falls_with_work
+  pub keeps_bare : (new : Database) → ((u : Table) → Has old.schema.tables u → OwnsTree old.schema u → u.tree ≢ (t the_table.Workunit) → u.references ≡ [] → new.trees u.tree ≡ old.trees u.tree) → Keeps version t old new falls_with_work
   keeps_bare new bare q in_q off =
-      let parts : (is_part Workunits q ≡ false) × (is_some (child_column q) ≡ false) = either_false _ _ off in
+      let parts : (is_part the_table.Workunit q ≡ false) × (is_some (child_column q) ≡ false) = either_false _ _ off in
       let none = elim (child_column q) as (λ o. is_some o ≡ false → references_by o ≡ []) [ None ↦ λ no. refl | Some c ↦ λ no. absurd (cc) ] parts.1 in
-      kept new q (bare (table_of t q) (stands_in q in_q) (there q in_q).2 (table_apart Workunits q tt in_q parts.0) (references_in t q ∙ none))
+      kept new q (bare (table_of t q) (stands_in q in_q) (there q in_q).2 (table_apart the_table.Workunit q tt in_q parts.0) (references_in t q ∙ none))
 
   -- and what is left of the children then
-  pub child_left : (new : Database) (left : ℕ → List Row → List Row) → ChildrenAre old new left → (q : Part) (c : ℕ) → IsIn q version → child_column q ≡ Some c → IsShaped shape.Table (old.trees (tree_in t q))
-      → new.trees (tree_in t q) ≡ left c (old.trees (tree_in t q))
+  pub child_left : (new : Database) (left : ℕ → List Row → List Row) → ChildrenAre old new left → (q : ProjectTable) (c : ℕ) → IsTableOf q version → child_column q ≡ Some c → IsShaped shape.Table (old.trees (t q))
+      → new.trees (t q) ≡ left c (old.trees (t q))
   child_left new left are q c in_q is = subst (λ n. IsShaped shape.Table (old.trees n) → new.trees n ≡ left c (old.trees n)) (placed t q) (are (table_of t q) c (child_there q c in_q is))
 
 -- ---- a world without classes
@@ -301,7 +250,7 @@ no_hosts (it ∷ more) h = let few = length_permutation (map class_cells (it ∷
 
 module _ (old : Database) (world after : World) (s : Refines old world) (none : LacksClasses world) where
   -- so a world that has the same rows of classes has none
-  classless_too : ((rows : List Row) → Holds HostClasses rows world → Holds HostClasses rows after) → ((rows : List Row) → Holds WorkClasses rows world → Holds WorkClasses rows after) → LacksClasses after
+  classless_too : ((rows : List Row) → Holds the_table.HostClass rows world → Holds the_table.HostClass rows after) → ((rows : List Row) → Holds the_table.WorkunitClass rows world → Holds the_table.WorkunitClass rows after) → LacksClasses after
   classless_too hosts works =
       let empty : HoldsAll [] (map class_cells world.classes) = subst (λ (cs : List HostClass). HoldsAll [] (map class_cells cs)) (sym none.hosts) (record { shaped = (tt, tt); same = IsPermutation-refl [] }) in
       let up = classes_rise world.workunits (subst IsTable s.rows.workunits.same s.rows.workunits.shaped.0) in
@@ -315,26 +264,26 @@ module _ (old : Database) (world after : World) (s : Refines old world) (none : 
 module _ (old new : Database) (world after : World) (s : Refines old world) where
   -- what it does not touch it keeps, and the new world lists there what the old one listed; what it touches has the
   -- rows of the new world, which has no classes either before their version
-  pub frame_in : (touched : Part → Bool) → new.schema ≡ old.schema → after.version ≡ world.version → Keeps world.version s.trees old new touched
-      → ((q : Part) → touched q ≡ false → (rows : List Row) → Holds q rows world → Holds q rows after)
-      → ((q : Part) → IsIn q world.version → touched q ≡ true → Holds q (new.trees (tree_in s.trees q)) after) → (¬ IsClassedVersion world.version → LacksClasses world → LacksClasses after) → IsDatabase new → Refines new after
+  pub frame_in : (touched : ProjectTable → Bool) → new.schema ≡ old.schema → after.version ≡ world.version → Keeps world.version s.trees old new touched
+      → ((q : ProjectTable) → touched q ≡ false → (rows : List Row) → Holds q rows world → Holds q rows after)
+      → ((q : ProjectTable) → IsTableOf q world.version → touched q ≡ true → Holds q (new.trees (s.trees q)) after) → (¬ IsClassedVersion world.version → LacksClasses world → LacksClasses after) → IsDatabase new → Refines new after
   frame_in touched same version keeps carries fits classless sound =
       all_stand old new world after s same version (λ q is_in.
-      let was = subst (IsIn q) version is_in in
+      let was = subst (IsTableOf q) version is_in in
       elim (cases_Bool (touched q)) [
         | inl on ↦ fits q was on
-        | inr off ↦ carries q off (new.trees (tree_in s.trees q)) (subst (λ rows. Holds q rows world) (sym (keeps q was off)) (parts_hold old world s q was))
+        | inr off ↦ carries q off (new.trees (s.trees q)) (subst (λ rows. Holds q rows world) (sym (keeps q was off)) (parts_hold old world s q was))
       ]) (λ off. let was : ¬ IsClassedVersion world.version = λ on. off (subst IsClassedVersion (sym version) on) in classless was (s.rows.classless was)) sound
 
   -- of parts that the version has, so that before the version of classes it touches none of theirs
-  pub frame : (touched : Part → Bool) → ((q : Part) → touched q ≡ true → IsIn q world.version) → new.schema ≡ old.schema → after.version ≡ world.version → Keeps world.version s.trees old new touched
-      → ((q : Part) → touched q ≡ false → (rows : List Row) → Holds q rows world → Holds q rows after) → ((q : Part) → touched q ≡ true → Holds q (new.trees (tree_in s.trees q)) after) → IsDatabase new → Refines new after
+  pub frame : (touched : ProjectTable → Bool) → ((q : ProjectTable) → touched q ≡ true → IsTableOf q world.version) → new.schema ≡ old.schema → after.version ≡ world.version → Keeps world.version s.trees old new touched
+      → ((q : ProjectTable) → touched q ≡ false → (rows : List Row) → Holds q rows world → Holds q rows after) → ((q : ProjectTable) → touched q ≡ true → Holds q (new.trees (s.trees q)) after) → IsDatabase new → Refines new after
   frame touched is_in same version keeps carries fits = frame_in touched same version keeps carries (λ q was. fits q) (λ off none.
-      let beside = λ (q : Part) (never : ¬ (touched q ≡ true)) (rows : List Row). carries q (false_from_ne_true (touched q) never) rows in
-      classless_too old world after s none (beside HostClasses (λ on. off (is_in HostClasses on))) (beside WorkClasses (λ on. off (is_in WorkClasses on))))
+      let beside = λ (q : ProjectTable) (never : ¬ (touched q ≡ true)) (rows : List Row). carries q (false_from_ne_true (touched q) never) rows in
+      classless_too old world after s none (beside the_table.HostClass (λ on. off (is_in the_table.HostClass on))) (beside the_table.WorkunitClass (λ on. off (is_in the_table.WorkunitClass on))))
 
   -- of one part
-  pub frame_one : (p : Part) → IsIn p world.version → new.schema ≡ old.schema → after.version ≡ world.version → Keeps world.version s.trees old new (is_part p)
-      → ((q : Part) → is_part p q ≡ false → (rows : List Row) → Holds q rows world → Holds q rows after) → Holds p (new.trees (tree_in s.trees p)) after → IsDatabase new → Refines new after
+  pub frame_one : (p : ProjectTable) → IsTableOf p world.version → new.schema ≡ old.schema → after.version ≡ world.version → Keeps world.version s.trees old new (is_part p)
+      → ((q : ProjectTable) → is_part p q ≡ false → (rows : List Row) → Holds q rows world → Holds q rows after) → Holds p (new.trees (s.trees p)) after → IsDatabase new → Refines new after
   frame_one p is_in same version keeps carries fits sound =
-      frame (is_part p) (λ q on. subst (λ r. IsIn r world.version) (same_part p q on) is_in) same version keeps carries (λ q on. subst (λ r. Holds r (new.trees (tree_in s.trees r)) after) (same_part p q on) fits) sound
+      frame (is_part p) (λ q on. subst (λ r. IsTableOf r world.version) (same_part p q on) is_in) same version keeps carries (λ q on. subst (λ r. Holds r (new.trees (s.trees r)) after) (same_part p q on) fits) sound

@@ -10,7 +10,10 @@ use Rattle.wu_schema.specs.Stored.{stored_marks}
 use Rattle.wu_schema.specs.Tables.{queue_at}
 use Rattle.wu_schema.specs.Calm.{IsSteady}
 use Rattle.wu_schema.proofs.StandsLemmas.{IsChild, is_there, lists_still}
-use Rattle.wu_schema.proofs.Parts.{Part, Project, Workunits, IsIn, is_part, table_of, tree_in}
+use Rattle.wu_schema.proofs.Parts.{is_part, table_of}
+use Rattle.wu_schema.specs.declared.table.ProjectTable.{ProjectTable}
+use Rattle.wu_schema.specs.declared.table.ProjectTable.TheVariants as the_table
+use Rattle.wu_schema.specs.ProjectTables.{IsTableOf}
 use Rattle.wu_schema.proofs.BesideLemmas.{IsBeside, beside_apart, beside_calm, beside_self, beside_steady, keeps_world, leaves_rows, puts_beside}
 use Rattle.wu_schema.proofs.MadeLemmas.{made_grows, no_list, still_made}
 use Rattle.wu_schema.proofs.StandsOver.{Grows, grows_both, stands_over, still_named}
@@ -105,8 +108,8 @@ queue_over old new marked grows q = record {
 }
 
 -- no table of a project is called so
-called_otherwise : (t : ProjectTrees) (p : Part) → bytes_eq (table_of t p).name (codes "queue") ≡ false
-called_otherwise t Project = refl
+called_otherwise : (t : ProjectTrees) (p : ProjectTable) → bytes_eq (table_of t p).name (codes "queue") ≡ false
+called_otherwise t the_table.Project = refl
 called_otherwise t _ = refl
 
 module _ (old : Database) (world : World) (s : Refines old world) (marked : List (ℕ × Marks)) (q : HasQueue old marked) where
@@ -117,7 +120,7 @@ module _ (old : Database) (world : World) (s : Refines old world) (marked : List
   is_beside = record { listed = queue_listed; owns = q.table.2; other = λ p is_in. called_otherwise s.trees p }
 
   -- its tree is apart from those of the project's tables
-  pub queue_apart : (p : Part) → IsIn p world.version → tree_in s.trees p ≢ q.tree
+  pub queue_apart : (p : ProjectTable) → IsTableOf p world.version → s.trees p ≢ q.tree
   queue_apart = beside_apart old world s (queue_at q.tree) is_beside
 
   -- its rows go with their workunits
@@ -125,14 +128,14 @@ module _ (old : Database) (world : World) (s : Refines old world) (marked : List
   queue_child = record { listed = queue_listed; owns = q.table.2; refers = refl }
 
   -- a row that is put into one of them leaves it
-  pub rows_beside : (new : Database) (p : Part) → IsIn p world.version → (row : Row) → PutsOne old new (tree_in s.trees p) row → new.trees q.tree ≡ old.trees q.tree
+  pub rows_beside : (new : Database) (p : ProjectTable) → IsTableOf p world.version → (row : Row) → PutsOne old new (s.trees p) row → new.trees q.tree ≡ old.trees q.tree
   rows_beside = leaves_rows old world s (queue_at q.tree) is_beside
 
-  pub queue_beside : (new : Database) (p : Part) → IsIn p world.version → (row : Row) → PutsOne old new (tree_in s.trees p) row → HasQueue new marked
+  pub queue_beside : (new : Database) (p : ProjectTable) → IsTableOf p world.version → (row : Row) → PutsOne old new (s.trees p) row → HasQueue new marked
   queue_beside new p is_in row put = queue_still old new marked q put.schema (rows_beside new p is_in row put)
 
   -- so does a write of one of them but of the workunits
-  pub queue_calm : (p : Part) → IsIn p world.version → is_part p Workunits ≡ false → IsCalm old.schema Enforced (queue_at q.tree) (tree_in s.trees p)
+  pub queue_calm : (p : ProjectTable) → IsTableOf p world.version → is_part p the_table.Workunit ≡ false → IsCalm old.schema Enforced (queue_at q.tree) (s.trees p)
   queue_calm = beside_calm old world s (queue_at q.tree) is_beside 0 queue_child
 
   -- and one of its own rows leads to no other

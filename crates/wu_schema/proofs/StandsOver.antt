@@ -2,7 +2,9 @@
 use Rattle.wu_schema.proofs.Words.{Binary, Database, Has, HasNamed, HasTable, HasTables, Index, IsDatabase, List, OwnsTree, ProjectTrees, Schema, Refines, Table, World, [], false, first_key, guards, host_at, inl, inr, refl, subst, sym, true, ℕ, ◌∙◌, ◌∷◌, ◌≡◌, ◌⊎◌}
 use Rattle.wu_schema.specs.Made.{KeepsOthers}
 use Rattle.wu_schema.proofs.StandsLemmas.{is_there}
-use Rattle.wu_schema.proofs.Parts.{Project, Workunits, Instances, Grants, Hosts, Archive, Imports, HostClasses, WorkClasses, HasParts, name_of, table_of, parts_there, parts_hold, Holds, kept, stands_in, rows_stand}
+use Rattle.wu_schema.proofs.Parts.{HasParts, table_of, parts_there, parts_hold, Holds, kept, stands_in, rows_stand}
+use Rattle.wu_schema.specs.declared.table.ProjectTable.TheVariants as the_table
+use Rattle.wu_schema.specs.ProjectTables.{name_of}
 
 -- what was there is there still, by its name and in a tree of its own, and no new index guards a table that was there
 pub record Grows (old new : Database) : Type 0 where
@@ -36,19 +38,8 @@ grows_both old mid new one two = record {
 abbrev pub ByBytes : Schema → ℕ → Type 0
 ByBytes schema tree = (i : Index) → Has schema.indexes i → guards i (host_at tree) ≡ true → i.columns ≡ 1 ∷ [] → (first_key i.order).collation ≡ Binary
 
-pub tables_are : (version : ℕ) (schema : Schema) (t : ProjectTrees) → HasParts version schema t → ByBytes schema t.host → HasTables version schema t
-tables_are version schema t there by = record {
-  project = there Project tt;
-  workunit = there Workunits tt;
-  result = there Instances tt;
-  grant = there Grants tt;
-  host = there Hosts tt;
-  archived = there Archive tt;
-  import = there Imports tt;
-  host_class = there HostClasses;
-  workunit_class = there WorkClasses;
-  by_bytes = by;
-}
+pub tables_are : (version : ℕ) (schema : Schema) (t : ProjectTrees) → HasParts version schema t → ByBytes schema (t the_table.Host) → HasTables version schema t
+tables_are version schema t there by = record { each = there; by_bytes = by }
 
 module _ (old new : Database) (grows : Grows old new) where
   pub still_named : (name : List ℕ) (t : Table) → HasNamed old.schema name t → HasNamed new.schema name t
@@ -63,7 +54,7 @@ module _ (old new : Database) (grows : Grows old new) where
       let stands = stands_in world.version old s.trees there in
       record {
         trees = s.trees;
-        tables = tables_are world.version new.schema s.trees (λ p is_in. still_named (name_of p) (table_of s.trees p) (there p is_in)) (still_compares s.trees.host (stands Hosts tt) s.tables.by_bytes);
+        tables = tables_are world.version new.schema s.trees (λ p is_in. still_named (name_of p) (table_of s.trees p) (there p is_in)) (still_compares (s.trees the_table.Host) (stands the_table.Host tt) s.tables.by_bytes);
         rows = rows_stand new s.trees world (λ p is_in. subst (λ rs. Holds p rs world) (sym (kept world.version old s.trees there new p (grows.keeps.tables (table_of s.trees p) (stands p is_in)).1)) (parts_hold old world s p is_in)) s.rows.classless;
         sound = sound;
       }

@@ -16,6 +16,7 @@ use Rattle.wu_schema.proofs.AnswerLemmas.{shown_answers}
 use Rattle.wu_schema.proofs.ReadLemmas.{IsSelect, shows_none}
 use Rattle.wu_schema.proofs.ToldLemmas.{query_told, never_over, failed_told}
 use Rattle.wu_schema.proofs.VersionTexts.{version_accepted, version_first, version_parsed, version_select, version_query, version_names, version_tests, version_shows, version_reads, free_understood}
+use Rattle.wu_schema.specs.declared.table.ProjectTable.TheVariants as the_table
 
 pub version_selects : IsSelect version_text
 version_selects = record { parsed = version_parsed; select = version_select; read = version_first; is = refl }
@@ -28,12 +29,12 @@ columns_named tree = (refl, refl, refl)
 
 abbrev pub project_of : (db : Database) (world : World) → Refines db world → HasProject db.schema
 project_of db world s = record {
-  at = s.tables.project.0;
-  table = project_at s.trees.project;
-  found = s.tables.project.1;
-  one = (0, may (codes "one") Integer, (columns_named s.trees.project).0, refl);
-  version = (1, needs (codes "version") Integer, (columns_named s.trees.project).1, refl);
-  next_number = (2, needs (codes "next_number") Integer, (columns_named s.trees.project).2, refl);
+  at = (s.tables.each the_table.Project tt).0;
+  table = project_at (s.trees the_table.Project);
+  found = (s.tables.each the_table.Project tt).1;
+  one = (0, may (codes "one") Integer, (columns_named (s.trees the_table.Project)).0, refl);
+  version = (1, needs (codes "version") Integer, (columns_named (s.trees the_table.Project)).1, refl);
+  next_number = (2, needs (codes "next_number") Integer, (columns_named (s.trees the_table.Project)).2, refl);
 }
 
 pub project_row : (db : Database) (world : World) (s : Refines db world) → AreOfVersion (rows_of_project db (project_of db world s)) world.version

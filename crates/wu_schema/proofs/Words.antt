@@ -122,6 +122,7 @@ pub use Rattle.wu_schema.specs.Made.{HasMade, PutsOne}
 unfoldable pub use Rattle.wu_schema.specs.Pipeline.{pipeline}
 pub use Rattle.wu_schema.specs.Refines.{HoldsAll, IsFree, ListsAll, Refines, instances_of}
 pub use Rattle.wu_schema.specs.Stored.{archived_cells, class_cells, class_row, grant_cells, import_cells, instance_cells, instance_row, number, number_or_null, stored_archived, stored_class, stored_grant, stored_project, stored_workunit, text_or_null, verdict_digits, workunit_row}
-pub use Rattle.wu_schema.specs.Tables.{HasNamed, HasTable, HasTables, OwnsTree, ProjectTrees, archived_at, grant_at, host_at, host_class_at, import_at, may, needs, project_at, result_at, workunit_at, workunit_class_at}
+pub use Rattle.wu_schema.specs.Tables.{HasNamed, HasTable, OwnsTree, archived_at, grant_at, host_at, host_class_at, import_at, may, needs, project_at, result_at, workunit_at, workunit_class_at}
+pub use Rattle.wu_schema.specs.ProjectTables.{HasTables, ProjectTrees}
 pub use Rattle.wu_schema.specs.Versions.{HasProject, HasVersion, version_text}
 pub use Rattle.wu_schema.specs.Calm.{IsCalm, IsChildless, RefersOnlyTo}

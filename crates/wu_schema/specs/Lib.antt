@@ -2,6 +2,7 @@ pub mod Faults
 pub mod Stored
 pub mod Pipeline
 pub mod Tables
+pub mod ProjectTables
 pub mod Refines
 pub mod Calm
 pub mod Calls

@@ -16,7 +16,9 @@ use Rattle.wu_core.specs.Classes.{AreInOrder}
 use Rattle.wu_core.specs.Hosts.{credit_of, grants_of, hosts_of}
 use Rattle.wu_core.specs.World.{World, Import, is_import, MayBeKept}
 use Rattle.wu_schema.specs.Stored.{stored_project, stored_workunit, stored_grant, stored_archived, stored_class, class_cells, instance_cells, host_cells, import_cells}
-use Rattle.wu_schema.specs.Tables.{ProjectTrees, HasTables, IsClassedVersion}
+use Rattle.wu_schema.specs.Tables.{IsClassedVersion}
+use Rattle.wu_schema.specs.ProjectTables.{HasTables, ProjectTrees}
+use Rattle.wu_schema.specs.declared.table.ProjectTable.TheVariants as the_table
 
 -- The rows of a workunit's instances, numbered from 0.
 abbrev pub instances_of : Workunit → List Row
@@ -38,8 +40,8 @@ pub record HoldsAll (rows cells : List Row) : Type 0 where
 
 -- The rows of the tables of classes are what the world holds.
 pub record HasClasses (db : Trees) (trees : ProjectTrees) (world : World) : Type 0 where
-  pub hosts : HoldsAll (db trees.host_class) (map class_cells world.classes)
-  pub workunits : ListsAll (db trees.workunit_class) (map stored_class world.workunits)
+  pub hosts : HoldsAll (db (trees the_table.HostClass)) (map class_cells world.classes)
+  pub workunits : ListsAll (db (trees the_table.WorkunitClass)) (map stored_class world.workunits)
 
 -- No host and no workunit has a class.
 pub record LacksClasses (world : World) : Type 0 where
@@ -48,13 +50,13 @@ pub record LacksClasses (world : World) : Type 0 where
 
 -- The rows of the tables are what the world holds, except those of the queue.
 pub record HasRows (db : Trees) (trees : ProjectTrees) (world : World) : Type 0 where
-  pub project : db trees.project ≡ stored_project world ∷ []
-  pub workunits : ListsAll (db trees.workunit) (map stored_workunit world.workunits)
-  pub instances : HoldsAll (db trees.result) (flat_map instances_of world.workunits)
-  pub grants : ListsAll (db trees.grant) (map stored_grant (enumerate_from 1 world.grants))
-  pub hosts : HoldsAll (db trees.host) (map (host_of world.grants) (hosts_of world.grants))
-  pub archived : ListsAll (db trees.archived) (map stored_archived (enumerate_from 1 world.archived))
-  pub imports : HoldsAll (db trees.import) (map import_cells world.imports)
+  pub project : db (trees the_table.Project) ≡ stored_project world ∷ []
+  pub workunits : ListsAll (db (trees the_table.Workunit)) (map stored_workunit world.workunits)
+  pub instances : HoldsAll (db (trees the_table.Result)) (flat_map instances_of world.workunits)
+  pub grants : ListsAll (db (trees the_table.Grant)) (map stored_grant (enumerate_from 1 world.grants))
+  pub hosts : HoldsAll (db (trees the_table.Host)) (map (host_of world.grants) (hosts_of world.grants))
+  pub archived : ListsAll (db (trees the_table.Archived)) (map stored_archived (enumerate_from 1 world.archived))
+  pub imports : HoldsAll (db (trees the_table.Import)) (map import_cells world.imports)
   -- No two imports have the same kind and name.
   pub imported_once : IsAscending (λ (a b : Import). is_import a.kind a.name b ≡ false) world.imports
   pub imports_kept : AllByRecursion MayBeKept world.imports

@@ -7,7 +7,6 @@ use Rattle.sqlite.specs.declared.types.Value.TheVariants.{Null, Int}
 use Rattle.sqlite.specs.Term.{lit, col, op2}
 use Rattle.sqlite.specs.Table.{Table}
 use Rattle.sqlite_schema.specs.declared.schema.Column.{Column}
-use Rattle.sqlite_schema.specs.declared.schema.Index.{Index}
 use Rattle.sqlite_schema.specs.declared.schema.Reference.{Reference}
 use Rattle.sqlite_schema.specs.declared.schema.Action.TheVariants as action
 use Rattle.sqlite.specs.Schema.{Schema}
@@ -16,8 +15,6 @@ use Rattle.sqlite_sql.specs.declared.ops.CompareOp.TheVariants as compare
 use Rattle.sqlite.specs.Kind.{Kind}
 use Rattle.sqlite.specs.Kind.TheVariants.{Integer, Text, Blob}
 use Rattle.sqlite_schema.specs.Names.{table_named}
-use Rattle.sqlite_schema.specs.Rules.{guards}
-use Rattle.sqlite_value.specs.Keys.{first_key}
 use Rattle.sqlite_rules.specs.Lists.{Has}
 
 -- A column that needs a value.
@@ -182,29 +179,3 @@ HasNamed schema name table = (at : ℕ) × HasTable schema name at table × Owns
 -- The version of the schema has classes of hosts and of workunits.
 abbrev pub IsClassedVersion : ℕ → Type 0
 IsClassedVersion version = class_version ≤ version
-
--- The tree in which the store put each table.
-pub record ProjectTrees : Type 0 where
-  pub project : ℕ
-  pub workunit : ℕ
-  pub result : ℕ
-  pub grant : ℕ
-  pub host : ℕ
-  pub archived : ℕ
-  pub import : ℕ
-  pub host_class : ℕ
-  pub workunit_class : ℕ
-
--- All tables of a version except the queue are there, whatever else is there.
-pub record HasTables (version : ℕ) (schema : Schema) (trees : ProjectTrees) : Type 0 where
-  pub project : HasNamed schema (codes "project") (project_at trees.project)
-  pub workunit : HasNamed schema (codes "workunit") (workunit_at trees.workunit)
-  pub result : HasNamed schema (codes "result") (result_at trees.result)
-  pub grant : HasNamed schema (codes "credit_grant") (grant_at trees.grant)
-  pub host : HasNamed schema (codes "host") (host_at trees.host)
-  pub archived : HasNamed schema (codes "archived") (archived_at trees.archived)
-  pub import : HasNamed schema (codes "import") (import_at trees.import)
-  pub host_class : IsClassedVersion version → HasNamed schema (codes "host_class") (host_class_at trees.host_class)
-  pub workunit_class : IsClassedVersion version → HasNamed schema (codes "workunit_class") (workunit_class_at trees.workunit_class)
-  -- Each unique index on only the names of hosts compares their bytes.
-  pub by_bytes : (i : Index) → Has schema.indexes i → guards i (host_at trees.host) ≡ true → i.columns ≡ 1 ∷ [] → (first_key i.order).collation ≡ Binary

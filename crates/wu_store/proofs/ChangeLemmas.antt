@@ -18,6 +18,7 @@ use Rattle.wu_schema.proofs.ClassLemmas.{stands_with_classes}
 use Rattle.wu_schema.proofs.StandsLemmas.{but_one, lists_still}
 use Rattle.wu_store.proofs.StandsWith.{stands_with_next}
 use Rattle.wu_store.proofs.ListedLemmas.{listed_next}
+use Rattle.wu_schema.specs.declared.table.ProjectTable.TheVariants as the_table
 
 pub cast_number : (n : ℕ) → cast Integer (number n) ≡ number n
 cast_number n = cast_int (pos n)
@@ -68,38 +69,38 @@ grant_kept tree place g = simp (cast_null, cast_number)
 
 pub puts_grant : (old new : State) (place : ℕ) (g : Grant) (count : ℕ) → Executes grant_put.text (number place ∷ grant_cells g) old new (Ok count) → PutsGrants place (g ∷ []) old.now new.now
 puts_grant old new place g count h version t has sound =
-    let put = puts_one (codes "credit_grant") grant_at grant_put grant_fits (number place ∷ grant_cells g) old new has.grant.0 t.grant has.grant.1 (stored_grant (place, g)) (stored_grant (place, g)) (grant_kept t.grant place g) refl count h in
+    let put = puts_one (codes "credit_grant") grant_at grant_put grant_fits (number place ∷ grant_cells g) old new (has.each the_table.Grant tt).0 (t the_table.Grant) (has.each the_table.Grant tt).1 (stored_grant (place, g)) (stored_grant (place, g)) (grant_kept (t the_table.Grant) place g) refl count h in
     record {
       schema = put.schema;
-      rows = λ grants next lists. lists_still put.rows (listed_next grant_cells (old.now.trees t.grant) grants place g next lists);
-      others = but_one old.now new.now t.grant (stored_grant (place, g)) put;
+      rows = λ grants next lists. lists_still put.rows (listed_next grant_cells (old.now.trees (t the_table.Grant)) grants place g next lists);
+      others = but_one old.now new.now (t the_table.Grant) (stored_grant (place, g)) put;
       sound = put.sound;
     }
 
 module _ (old new : State) (world : World) (s : Refines old.now world) where
-  pub put_workunit : (w : Workunit) (count : ℕ) → Executes workunit_put.text (workunit_row w) old new (Ok count) → PutsOne old.now new.now s.trees.workunit (stored_workunit w)
-  put_workunit w count h = puts_one (codes "workunit") workunit_at workunit_put workunit_fits (workunit_row w) old new s.tables.workunit.0 s.trees.workunit s.tables.workunit.1 (stored_workunit w) (stored_workunit w) (workunit_kept s.trees.workunit w) refl count h
+  pub put_workunit : (w : Workunit) (count : ℕ) → Executes workunit_put.text (workunit_row w) old new (Ok count) → PutsOne old.now new.now (s.trees the_table.Workunit) (stored_workunit w)
+  put_workunit w count h = puts_one (codes "workunit") workunit_at workunit_put workunit_fits (workunit_row w) old new (s.tables.each the_table.Workunit tt).0 (s.trees the_table.Workunit) (s.tables.each the_table.Workunit tt).1 (stored_workunit w) (stored_workunit w) (workunit_kept (s.trees the_table.Workunit) w) refl count h
 
-  pub put_instance : (number n : ℕ) (i : Instance) (count : ℕ) → Executes instance_put.text (instance_cells number n i) old new (Ok count) → PutsOne old.now new.now s.trees.result (Int (next_rowid (old.now.trees s.trees.result)) ∷ instance_cells number n i)
-  put_instance number n i count h = puts_one (codes "result") result_at instance_put instance_fits (instance_cells number n i) old new s.tables.result.0 s.trees.result s.tables.result.1 (Null ∷ instance_cells number n i) _ (instance_kept s.trees.result number n i) refl count h
+  pub put_instance : (number n : ℕ) (i : Instance) (count : ℕ) → Executes instance_put.text (instance_cells number n i) old new (Ok count) → PutsOne old.now new.now (s.trees the_table.Result) (Int (next_rowid (old.now.trees (s.trees the_table.Result))) ∷ instance_cells number n i)
+  put_instance number n i count h = puts_one (codes "result") result_at instance_put instance_fits (instance_cells number n i) old new (s.tables.each the_table.Result tt).0 (s.trees the_table.Result) (s.tables.each the_table.Result tt).1 (Null ∷ instance_cells number n i) _ (instance_kept (s.trees the_table.Result) number n i) refl count h
 
-  pub put_archived : (place : ℕ) (a : Archived) (count : ℕ) → Executes archived_put.text (number place ∷ archived_cells a) old new (Ok count) → PutsOne old.now new.now s.trees.archived (stored_archived (place, a))
+  pub put_archived : (place : ℕ) (a : Archived) (count : ℕ) → Executes archived_put.text (number place ∷ archived_cells a) old new (Ok count) → PutsOne old.now new.now (s.trees the_table.Archived) (stored_archived (place, a))
   put_archived place a count h =
-      puts_one (codes "archived") archived_at archived_put archived_fits (number place ∷ archived_cells a) old new s.tables.archived.0 s.trees.archived s.tables.archived.1 (stored_archived (place, a)) (stored_archived (place, a)) (archived_kept s.trees.archived place a) refl count h
+      puts_one (codes "archived") archived_at archived_put archived_fits (number place ∷ archived_cells a) old new (s.tables.each the_table.Archived tt).0 (s.trees the_table.Archived) (s.tables.each the_table.Archived tt).1 (stored_archived (place, a)) (stored_archived (place, a)) (archived_kept (s.trees the_table.Archived) place a) refl count h
 
-  pub put_import : (import : Import) (count : ℕ) → Executes import_put.text (import_cells import) old new (Ok count) → PutsOne old.now new.now s.trees.import (Int (next_rowid (old.now.trees s.trees.import)) ∷ import_cells import)
-  put_import import count h = puts_one (codes "import") import_at import_put import_fits (import_cells import) old new s.tables.import.0 s.trees.import s.tables.import.1 (Null ∷ import_cells import) _ (import_kept s.trees.import import) refl count h
+  pub put_import : (import : Import) (count : ℕ) → Executes import_put.text (import_cells import) old new (Ok count) → PutsOne old.now new.now (s.trees the_table.Import) (Int (next_rowid (old.now.trees (s.trees the_table.Import))) ∷ import_cells import)
+  put_import import count h = puts_one (codes "import") import_at import_put import_fits (import_cells import) old new (s.tables.each the_table.Import tt).0 (s.trees the_table.Import) (s.tables.each the_table.Import tt).1 (Null ∷ import_cells import) _ (import_kept (s.trees the_table.Import) import) refl count h
 
   pub sets_number : (n count : ℕ) → Executes next_set.text (number n ∷ []) old new (Ok count) → Refines new.now (with_next n world)
   sets_number n count h =
-      let sets = updates_project old new s.trees.project s.tables.project (pos n) count next_set next_fits h in
-      stands_with_next old.now new.now world s n sets.schema (sets_next old new s.trees.project s.tables.project (pos n) count (pos world.version) (pos world.next_number) h s.rows.project) sets.others sets.sound
+      let sets = updates_project old new (s.trees the_table.Project) (s.tables.each the_table.Project tt) (pos n) count next_set next_fits h in
+      stands_with_next old.now new.now world s n sets.schema (sets_next old new (s.trees the_table.Project) (s.tables.each the_table.Project tt) (pos n) count (pos world.version) (pos world.next_number) h s.rows.project) sets.others sets.sound
 
   -- at the version of classes, where their tables are there, with no class yet
   pub sets_classes : (older : ¬ IsClassedVersion world.version) → HasClassTables old.now (unbound_in world) → (count : ℕ) → Executes version_set.text (number 3 ∷ []) old new (Ok count) → Refines new.now (with_version 3 world)
   sets_classes older c count h =
-      let sets = updates_project old new s.trees.project s.tables.project (pos 3) count version_set version_fits h in
-      stands_with_classes old.now world s older c new.now sets.schema (sets_version old new s.trees.project s.tables.project (pos 3) count (pos world.version) (pos world.next_number) h s.rows.project) sets.others sets.sound
+      let sets = updates_project old new (s.trees the_table.Project) (s.tables.each the_table.Project tt) (pos 3) count version_set version_fits h in
+      stands_with_classes old.now world s older c new.now sets.schema (sets_version old new (s.trees the_table.Project) (s.tables.each the_table.Project tt) (pos 3) count (pos world.version) (pos world.next_number) h s.rows.project) sets.others sets.sound
 
 -- ---- what statements do to a transaction, one after another
 

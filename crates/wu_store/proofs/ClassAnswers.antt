@@ -6,7 +6,9 @@ use Rattle.wu_core.specs.declared.workunit.HostClass.{HostClass}
 use Rattle.wu_core.proofs.HostLemmas.{Ascends, matches, pairs_ascend}
 use Rattle.wu_core.proofs.ClassLemmas.{Before}
 use Rattle.wu_schema.specs.Tables.{IsClassedVersion}
-use Rattle.wu_schema.proofs.Parts.{HostClasses, IsIn, Part, WorkClasses, name_of, table_in}
+use Rattle.wu_schema.specs.declared.table.ProjectTable.{ProjectTable}
+use Rattle.wu_schema.specs.declared.table.ProjectTable.TheVariants as the_table
+use Rattle.wu_schema.specs.ProjectTables.{IsTableOf, name_of, table_at}
 use Rattle.wu_schema.proofs.RowLemmas.{one_test}
 use Rattle.wu_schema.proofs.SelectLemmas.{Asked, Fits, IsTyped}
 use Rattle.wu_store.specs.Answers.{numbered}
@@ -21,7 +23,7 @@ use Rattle.wu_store.specs.declared.texts.TheConstants.{SELECT_CLASS, SELECT_HOST
 -- ---- a question for a class, whole
 
 -- one that fits its table
-pub class_question : (p : Part) → ((version : ℕ) → IsClassedVersion version → IsIn p version) → (q : Asked) → ((tree : ℕ) → Fits (name_of p) (table_in p tree) q) → (params : Row) → length params ≡ length q.parameters → ((tree : ℕ) → IsTyped (name_of p) (table_in p tree) q params)
+pub class_question : (p : ProjectTable) → ((version : ℕ) → IsClassedVersion version → IsTableOf p version) → (q : Asked) → ((tree : ℕ) → Fits (name_of p) (table_at p tree) q) → (params : Row) → length params ≡ length q.parameters → ((tree : ℕ) → IsTyped (name_of p) (table_at p tree) q params)
     → IsQuestion q.text params WithClasses
 class_question p in_p q fits params few typed = question_over p q fits params few typed WithClasses (λ db world stood. (stood.1, in_p world.version stood.0))
 
@@ -44,7 +46,7 @@ row_classed n world = option_map work_row (numbered n world)
 pub class_found : (old new : State) (n : ℕ) (rows : List Row) → Shown class_asked.text (number n ∷ []) old new rows → (world : World) → WithClasses old.now world → rows ≡ option_to_list (row_classed n world)
 class_found old new n rows h world (known, s) =
     one_row stored_class work_row (λ (w : Workunit). w.number == n) _ _ world.workunits _ rows (s.rows.classes known).workunits.same (once_number old.now world s n) (λ w. one_test _ ∙ number_equal w.number n) (λ w. refl)
-    (asked_rows WorkClasses class_asked class_fits old new world s known (number n ∷ []) rows refl h)
+    (asked_rows the_table.WorkunitClass class_asked class_fits old new world s known (number n ∷ []) rows refl h)
 
 -- ---- the class of a host
 
@@ -86,8 +88,8 @@ tests_cells host (v ∷ r) = one_test _
 
 pub host_found : (old new : State) (host : List ℕ) (rows : List Row) → Shown host_asked.text (Text host ∷ []) old new rows → (world : World) → WithClasses old.now world → rows ≡ option_to_list (row_named host world)
 host_found old new host rows h world (known, s) =
-    let stored = old.now.trees s.trees.host_class in
-    let all = asked_rows HostClasses host_asked host_fits old new world s known (Text host ∷ []) rows refl h in
+    let stored = old.now.trees (s.trees the_table.HostClass) in
+    let all = asked_rows the_table.HostClass host_asked host_fits old new world s known (Text host ∷ []) rows refl h in
     only_shown class_row (is_named host) world.classes rows (once_named host world.classes (rising world.classes (pairs_ascend Before world.classes s.rows.classes_in_order)))
     (cells_shown class_cells class_row (is_named host) (by_name host) class_in _ _ (tests_cells host) shows_cells (λ it. text_equal it.host host) (λ it. refl) world.classes stored (s.rows.classes known).hosts rows all)
   where

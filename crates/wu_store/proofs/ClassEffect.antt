@@ -6,7 +6,9 @@ use Rattle.wu_schema.specs.Queue.{HasQueue}
 use Rattle.wu_schema.specs.Tables.{HasNamed, queue_at}
 use Rattle.wu_schema.proofs.InsertEffect.{cast_null, puts_one}
 use Rattle.wu_schema.proofs.InsertTexts.{Put, PutFits}
-use Rattle.wu_schema.proofs.Parts.{Holds, Instances, Part, WorkClasses, Workunits, apart, calm_from, frame_one, is_part, keeps_calm, parts_there}
+use Rattle.wu_schema.proofs.Parts.{Holds, apart, calm_from, frame_one, is_part, keeps_calm, parts_there}
+use Rattle.wu_schema.specs.declared.table.ProjectTable.{ProjectTable}
+use Rattle.wu_schema.specs.declared.table.ProjectTable.TheVariants as the_table
 use Rattle.wu_schema.proofs.QueueLemmas.{queue_apart, queue_calm, queue_listed, queue_still}
 use Rattle.wu_schema.proofs.SetTexts.{SetBy, SetFits}
 use Rattle.wu_schema.proofs.StandsLemmas.{is_there, lists_still}
@@ -41,15 +43,15 @@ puts_class old new n class count ran tree has =
     puts_one (codes "workunit_class") workunit_class_at class_put class_fits (number n ∷ number class ∷ []) old new has.0 tree has.1 (class_row (n, class)) (class_row (n, class)) (put_kept tree n class) refl count ran
 
 -- with the row of its workunit, which has no instances yet
-module _ (old mid new : Database) (w : Workunit) (class : PutsClass w.number w.class mid new) (world : World) (known : KnowsClasses world) (s : Refines old world) (put : PutsOne old mid s.trees.workunit (stored_workunit w)) where
-  named_then : HasNamed mid.schema (codes "workunit_class") (workunit_class_at s.trees.workunit_class)
-  named_then = subst (λ (x : Schema). HasNamed x (codes "workunit_class") (workunit_class_at s.trees.workunit_class)) (sym put.schema) (s.tables.workunit_class known)
+module _ (old mid new : Database) (w : Workunit) (class : PutsClass w.number w.class mid new) (world : World) (known : KnowsClasses world) (s : Refines old world) (put : PutsOne old mid (s.trees the_table.Workunit) (stored_workunit w)) where
+  named_then : HasNamed mid.schema (codes "workunit_class") (workunit_class_at (s.trees the_table.WorkunitClass))
+  named_then = subst (λ (x : Schema). HasNamed x (codes "workunit_class") (workunit_class_at (s.trees the_table.WorkunitClass))) (sym put.schema) (s.tables.each the_table.WorkunitClass known)
 
   pub places_workunit : Refines new (with_placed (without_instances w) world)
-  places_workunit = stands_with_placed old mid new world s known (without_instances w) put (class s.trees.workunit_class named_then) refl
+  places_workunit = stands_with_placed old mid new world s known (without_instances w) put (class (s.trees the_table.WorkunitClass) named_then) refl
 
   pub placed_leaves : (marked : List (ℕ × Marks)) → HasQueue mid marked → HasQueue new marked
-  placed_leaves marked q = class_row_leaves mid new s.trees.workunit_class named_then (class_row (w.number, w.class)) (class s.trees.workunit_class named_then) marked q
+  placed_leaves marked q = class_row_leaves mid new (s.trees the_table.WorkunitClass) named_then (class_row (w.number, w.class)) (class (s.trees the_table.WorkunitClass) named_then) marked q
 
 -- beside a world of an older version
 pub adds_class : (old new : Database) (n class : ℕ) → PutsClass n class old new → AddsClass n class old new
@@ -101,13 +103,13 @@ module _ (n class : ℕ) where
 
   module _ (old new : State) (world : World) (known : KnowsClasses world) (s : Refines old.now world) (count : ℕ) (ran : Executes class_set.text (number n ∷ number class ∷ []) old new (Ok count)) where
     abbrev tree : ℕ
-    tree = s.trees.workunit_class
+    tree = (s.trees the_table.WorkunitClass)
 
     abbrev rows : List Row
     rows = old.now.trees tree
 
     there : HasNamed old.now.schema (codes "workunit_class") (workunit_class_at tree)
-    there = s.tables.workunit_class known
+    there = s.tables.each the_table.WorkunitClass known
 
     held : ListsAll rows (map class_row (map classed world.workunits))
     held = subst (ListsAll rows) (sym (map-map class_row classed world.workunits)) (s.rows.classes known).workunits
@@ -118,24 +120,24 @@ module _ (n class : ℕ) where
     rows_are : new.now.trees tree ≡ replaced (pos n) (class_row (n, class)) rows
     rows_are =
         let all = parts_there old.now world s in
-        class_sets.rows (calm_from world.version old.now s.trees all tree (apart world.version old.now s.trees all WorkClasses Workunits known tt refl) WorkClasses known)
+        class_sets.rows (calm_from world.version old.now s.trees all tree (apart world.version old.now s.trees all the_table.WorkunitClass the_table.Workunit known tt refl) the_table.WorkunitClass known)
         ∙ resets_one (pos n) (class_row (n, class)) rows held.shaped refl (workunit_class_at tree) class_set.made (number class ∷ []) (class_row (n, class)) (set_kept tree n class) (λ x key. ap (λ v. v ∷ v ∷ Null ∷ number class ∷ []) key) class_sets.found class_sets.shown
 
     pub sets_class : Refines new.now (with_set_class n class world)
-    sets_class = frame_one old.now new.now world (with_set_class n class world) s WorkClasses known class_sets.schema refl
-        (keeps_calm world.version old.now s.trees (parts_there old.now world s) new.now WorkClasses known refl class_sets.others) carry
+    sets_class = frame_one old.now new.now world (with_set_class n class world) s the_table.WorkunitClass known class_sets.schema refl
+        (keeps_calm world.version old.now s.trees (parts_there old.now world s) new.now the_table.WorkunitClass known refl class_sets.others) carry
         (lists_still rows_are (subst (ListsAll (replaced (pos n) (class_row (n, class)) rows)) (class_in_place world.workunits) (lists_in_its_place by_first behind (n, class) (map classed world.workunits) rows held)))
         class_sets.sound
       where
-        carry : (p : Part) → is_part WorkClasses p ≡ false → (rs : List Row) → Holds p rs world → Holds p rs (with_set_class n class world)
-        carry WorkClasses off rs h = absurd (cc)
-        carry Workunits off rs h = subst (ListsAll rs) (sym (map_stays (λ (w : Workunit). w.number == n) (λ w. record w { class = class }) stored_workunit (λ w on. refl) world.workunits)) h
-        carry Instances off rs h = subst (HoldsAll rs) (sym (flat_map_stays (λ (w : Workunit). w.number == n) (λ w. record w { class = class }) instances_of (λ w on. refl) world.workunits)) h
+        carry : (p : ProjectTable) → is_part the_table.WorkunitClass p ≡ false → (rs : List Row) → Holds p rs world → Holds p rs (with_set_class n class world)
+        carry the_table.WorkunitClass off rs h = absurd (cc)
+        carry the_table.Workunit off rs h = subst (ListsAll rs) (sym (map_stays (λ (w : Workunit). w.number == n) (λ w. record w { class = class }) stored_workunit (λ w on. refl) world.workunits)) h
+        carry the_table.Result off rs h = subst (HoldsAll rs) (sym (flat_map_stays (λ (w : Workunit). w.number == n) (λ w. record w { class = class }) instances_of (λ w on. refl) world.workunits)) h
         carry _ off rs h = h
 
     pub class_set_leaves : (marked : List (ℕ × Marks)) → HasQueue old.now marked → HasQueue new.now marked
     class_set_leaves marked q = queue_still old.now new.now marked q class_sets.schema
-        (class_sets.others (queue_at q.tree) (queue_listed old.now world s marked q) (λ same. queue_apart old.now world s marked q WorkClasses known (sym same)) (queue_calm old.now world s marked q WorkClasses known refl))
+        (class_sets.others (queue_at q.tree) (queue_listed old.now world s marked q) (λ same. queue_apart old.now world s marked q the_table.WorkunitClass known (sym same)) (queue_calm old.now world s marked q the_table.WorkunitClass known refl))
 
 -- whatever the world
 pub changes_class : (n class : ℕ) (old new : State) (count : ℕ) → Executes class_set.text (number n ∷ number class ∷ []) old new (Ok count) → ChangesClasses (with_set_class n class) old.now new.now

@@ -30,7 +30,10 @@ use Rattle.wu_schema.proofs.RowLemmas.{int_value}
 use Rattle.wu_store.proofs.FallLemmas.{has_own}
 use Rattle.wu_schema.proofs.InsertEffect.{also, no_more, cast_int}
 use Rattle.std.proofs.Common.{append-nil, append_assoc, arith as nats, length, ◌<◌, length-append}
-use Rattle.wu_schema.proofs.Parts.{Grants, HasParts, Holds, HostClasses, Hosts, IsIn, Part, WorkClasses, Keeps, frame, is_part, keeps_both, keeps_but, keeps_calm, parts_there, tree_in}
+use Rattle.wu_schema.proofs.Parts.{HasParts, Holds, Keeps, frame, is_part, keeps_both, keeps_but, keeps_calm, parts_there}
+use Rattle.wu_schema.specs.declared.table.ProjectTable.{ProjectTable}
+use Rattle.wu_schema.specs.declared.table.ProjectTable.TheVariants as the_table
+use Rattle.wu_schema.specs.ProjectTables.{IsTableOf}
 use Rattle.wu_store.proofs.InPlaceLemmas.{replaced}
 use Rattle.wu_store.proofs.SetEffect.{holds_set, replaced_shaped}
 use Rattle.wu_store.proofs.WorldOnce.{bytes_same}
@@ -39,8 +42,8 @@ use Rattle.wu_store.proofs.PlacedLemmas.{holds_put, holds_permuted}
 use Rattle.wu_schema.proofs.StandsLemmas.{is_there, lists_still, holds_still}
 use Rattle.wu_store.proofs.SumLemmas.{stored_sum}
 
-abbrev of_grants : Part → Bool
-of_grants q = is_part Grants q || is_part Hosts q
+abbrev of_grants : ProjectTable → Bool
+of_grants q = is_part the_table.Grant q || is_part the_table.Host q
 
 -- the row with its new sums is that of the rowid
 summed_key : (tree : ℕ) (x : Row) (id total count : ℤ) → rowid x ≡ Int id → rowid (summed tree x total count) ≡ Int id
@@ -137,19 +140,19 @@ typed db tree sound stands x total count has =
 abbrev pub sum_cells : HostSum → Row
 sum_cells sum = host_cells sum.name sum.total sum.grants
 
-module _ (old new : State) (version : ℕ) (t : ProjectTrees) (grants more : List Grant) (sum : HostSum) (are : AreSums (sum ∷ []) more) (has : HasTables version old.now.schema t) (sound : IsDatabase old.now) (h : HoldsHosts (old.now.trees t.host) grants) where
-  stands : Has old.now.schema.tables (host_at t.host)
-  stands = is_there old.now.schema _ _ has.host
+module _ (old new : State) (version : ℕ) (t : ProjectTrees) (grants more : List Grant) (sum : HostSum) (are : AreSums (sum ∷ []) more) (has : HasTables version old.now.schema t) (sound : IsDatabase old.now) (h : HoldsHosts (old.now.trees (t the_table.Host)) grants) where
+  stands : Has old.now.schema.tables (host_at (t the_table.Host))
+  stands = is_there old.now.schema _ _ (has.each the_table.Host tt)
 
   -- the rows of hosts, where one is new or one grows
-  hosts_then : Grown old.now.trees new.now.trees t.host sum.name (pos sum.total) (pos sum.grants) → new.now.schema ≡ old.now.schema → IsDatabase new.now → HoldsHosts (new.now.trees t.host) (grants ++ more)
-  hosts_then (inl put) same sure = subst (λ rs. HoldsHosts rs (grants ++ more)) (sym put.1) (new_rows old.now t.host sound stands grants more sum are h put.0)
+  hosts_then : Grown old.now.trees new.now.trees (t the_table.Host) sum.name (pos sum.total) (pos sum.grants) → new.now.schema ≡ old.now.schema → IsDatabase new.now → HoldsHosts (new.now.trees (t the_table.Host)) (grants ++ more)
+  hosts_then (inl put) same sure = subst (λ rs. HoldsHosts rs (grants ++ more)) (sym put.1) (new_rows old.now (t the_table.Host) sound stands grants more sum are h put.0)
   hosts_then (inr (x, id, there, on, is, trees)) same sure =
-      let mapped : Has (replaced id (summed t.host x (pos sum.total) (pos sum.grants)) (old.now.trees t.host)) (summed t.host x (pos sum.total) (pos sum.grants)) =
-      subst (Has (replaced id (summed t.host x (pos sum.total) (pos sum.grants)) (old.now.trees t.host))) (rw (has_own x id is) refl) (mapped_has (λ r. if has_rowid id r then summed t.host x (pos sum.total) (pos sum.grants) else r) (old.now.trees t.host) x there) in
-      let listed : Has (new.now.trees t.host) (summed t.host x (pos sum.total) (pos sum.grants)) = subst (λ rs. Has rs (summed t.host x (pos sum.total) (pos sum.grants))) (sym trees) mapped in
-      let fits = typed new.now t.host sure (subst (λ (s : Schema). Has s.tables (host_at t.host)) (sym same) stands) x (pos sum.total) (pos sum.grants) listed in
-      subst (λ rs. HoldsHosts rs (grants ++ more)) (sym trees) (grown_rows old.now t.host sound stands grants more sum are h x id there on is fits.0 fits.1)
+      let mapped : Has (replaced id (summed (t the_table.Host) x (pos sum.total) (pos sum.grants)) (old.now.trees (t the_table.Host))) (summed (t the_table.Host) x (pos sum.total) (pos sum.grants)) =
+      subst (Has (replaced id (summed (t the_table.Host) x (pos sum.total) (pos sum.grants)) (old.now.trees (t the_table.Host)))) (rw (has_own x id is) refl) (mapped_has (λ r. if has_rowid id r then summed (t the_table.Host) x (pos sum.total) (pos sum.grants) else r) (old.now.trees (t the_table.Host)) x there) in
+      let listed : Has (new.now.trees (t the_table.Host)) (summed (t the_table.Host) x (pos sum.total) (pos sum.grants)) = subst (λ rs. Has rs (summed (t the_table.Host) x (pos sum.total) (pos sum.grants))) (sym trees) mapped in
+      let fits = typed new.now (t the_table.Host) sure (subst (λ (s : Schema). Has s.tables (host_at (t the_table.Host))) (sym same) stands) x (pos sum.total) (pos sum.grants) listed in
+      subst (λ rs. HoldsHosts rs (grants ++ more)) (sym trees) (grown_rows old.now (t the_table.Host) sound stands grants more sum are h x id there on is fits.0 fits.1)
 
 -- the table of hosts is one then
 shaped_then : (old new : Trees) (tree : ℕ) (name : List ℕ) (total count : ℤ) → Grown old new tree name total count → IsShaped shape.Table (old tree) → IsShaped shape.Table (new tree)
@@ -158,12 +161,12 @@ shaped_then old new tree name total count (inr (x, id, there, on, is, trees)) sh
 
 pub credits_one : (old new : State) (sum : HostSum) (count : ℕ) → Executes upsert_text (sum_cells sum) old new (Ok count) → Credits (sum ∷ []) old.now new.now
 credits_one old new sum count ran version t has sound shaped =
-    let there : Has old.now.schema.tables (host_at t.host) = is_there old.now.schema _ _ has.host in
-    let (same, grown, others, sure) = grows old new has.host.0 t.host has.host.1 (host_key old.now t.host sound there has.by_bytes) has.host.2 there shaped sum.name (pos sum.total) (pos sum.grants) count ran in
+    let there : Has old.now.schema.tables (host_at (t the_table.Host)) = is_there old.now.schema _ _ (has.each the_table.Host tt) in
+    let (same, grown, others, sure) = grows old new (has.each the_table.Host tt).0 (t the_table.Host) (has.each the_table.Host tt).1 (host_key old.now (t the_table.Host) sound there has.by_bytes) (has.each the_table.Host tt).2 there shaped sum.name (pos sum.total) (pos sum.grants) count ran in
     record {
       schema = same;
       hosts = λ grants more are h. hosts_then old new version t grants more sum are has sound h grown same sure;
-      shaped = shaped_then old.now.trees new.now.trees t.host sum.name (pos sum.total) (pos sum.grants) grown shaped;
+      shaped = shaped_then old.now.trees new.now.trees (t the_table.Host) sum.name (pos sum.total) (pos sum.grants) grown shaped;
       others = others;
       sound = sure;
     }
@@ -173,7 +176,7 @@ credits_one old new sum count ran version t has sound shaped =
 pub credits_none : (db : Database) → Credits [] db db
 credits_none db version t has sound shaped = record {
   schema = refl;
-  hosts = λ grants more are h. subst (HoldsAll (db.trees t.host)) (alike_cells host_cells grants (grants ++ more)
+  hosts = λ grants more are h. subst (HoldsAll (db.trees (t the_table.Host))) (alike_cells host_cells grants (grants ++ more)
       (λ name. let a = credit_both grants more name in let b = are.total name in omega (nats, a, b))
       (λ name. let a = grants_both grants more name in let b = are.count name in omega (nats, a, b))) h;
   shaped = shaped;
@@ -209,11 +212,11 @@ credits_more old mid new sums sum first second version t has sound shaped =
       schema = two.schema ∙ one.schema;
       hosts = λ grants more are h.
           let some = counted sums sum grants more are in
-          subst (HoldsAll (new.trees t.host)) (same_hosts_then sums sum grants more are)
+          subst (HoldsAll (new.trees (t the_table.Host))) (same_hosts_then sums sum grants more are)
           (two.hosts (grants ++ spreads sums) (spread sum) (spread_sums sum some.1) (one.hosts grants (spreads sums) (spreads_sums sums some.0) h));
       shaped = two.shaped;
       others = λ u there other calm.
-          two.others u (subst (λ (x : Schema). Has x.tables u) (sym one.schema) there) other (subst (λ (x : Schema). IsCalm x Enforced u t.host) (sym one.schema) calm) ∙ one.others u there other calm;
+          two.others u (subst (λ (x : Schema). Has x.tables u) (sym one.schema) there) other (subst (λ (x : Schema). IsCalm x Enforced u (t the_table.Host)) (sym one.schema) calm) ∙ one.others u there other calm;
       sound = two.sound;
     }
 
@@ -222,7 +225,7 @@ credits_more old mid new sums sum first second version t has sound shaped =
 pub puts_none : (place : ℕ) (db : Database) → PutsGrants place [] db db
 puts_none place db version t has sound = record {
   schema = refl;
-  rows = λ grants next lists. subst (ListsGrants (db.trees t.grant)) (sym (append-nil grants)) lists;
+  rows = λ grants next lists. subst (ListsGrants (db.trees (t the_table.Grant))) (sym (append-nil grants)) lists;
   others = λ u there other. refl;
   sound = sound;
 }
@@ -235,7 +238,7 @@ puts_more place old mid new more g first second version t has sound =
       schema = two.schema ∙ one.schema;
       rows = λ grants next lists.
           let behind : IsNextPlace (place + length more) (grants ++ more) = let a = length-append grants more in omega (nats, a, next) in
-          subst (ListsGrants (new.trees t.grant)) (append_assoc grants more (g ∷ [])) (two.rows (grants ++ more) behind (one.rows grants next lists));
+          subst (ListsGrants (new.trees (t the_table.Grant))) (append_assoc grants more (g ∷ [])) (two.rows (grants ++ more) behind (one.rows grants next lists));
       others = λ u there other. two.others u (subst (λ (x : Schema). Has x.tables u) (sym one.schema) there) other ∙ one.others u there other;
       sound = two.sound;
     }
@@ -243,51 +246,51 @@ puts_more place old mid new more g first second version t has sound =
 -- ---- grants, and then their sums
 
 module _ (old new : Database) (world : World) (s : Refines old world) (more : List Grant) where
-  carry : (q : Part) → of_grants q ≡ false → (rows : List Row) → Holds q rows world → Holds q rows (with_grants more world)
-  carry Grants off rows h = absurd (cc)
-  carry Hosts off rows h = absurd (cc)
+  carry : (q : ProjectTable) → of_grants q ≡ false → (rows : List Row) → Holds q rows world → Holds q rows (with_grants more world)
+  carry the_table.Grant off rows h = absurd (cc)
+  carry the_table.Host off rows h = absurd (cc)
   carry _ off rows h = h
 
-  fits : ListsGrants (new.trees s.trees.grant) (world.grants ++ more) → HoldsHosts (new.trees s.trees.host) (world.grants ++ more) → (q : Part) → of_grants q ≡ true → Holds q (new.trees (tree_in s.trees q)) (with_grants more world)
-  fits lists holds Grants on = lists
-  fits lists holds Hosts on = holds
+  fits : ListsGrants (new.trees (s.trees the_table.Grant)) (world.grants ++ more) → HoldsHosts (new.trees (s.trees the_table.Host)) (world.grants ++ more) → (q : ProjectTable) → of_grants q ≡ true → Holds q (new.trees (s.trees q)) (with_grants more world)
+  fits lists holds the_table.Grant on = lists
+  fits lists holds the_table.Host on = holds
   fits lists holds _ on = absurd (cc)
 
-  in_version : (q : Part) → of_grants q ≡ true → IsIn q world.version
-  in_version HostClasses on = absurd (cc)
-  in_version WorkClasses on = absurd (cc)
+  in_version : (q : ProjectTable) → of_grants q ≡ true → IsTableOf q world.version
+  in_version the_table.HostClass on = absurd (cc)
+  in_version the_table.WorkunitClass on = absurd (cc)
   in_version _ on = tt
 
 module _ (old mid new : Database) (world : World) (s : Refines old world) (place : ℕ) (more : List Grant) (sums : List HostSum) (puts : PutsGrants place more old mid) (credits : Credits sums mid new) where
   put : HasListed place more s.trees old mid
   put = puts world.version s.trees s.tables s.sound
 
-  first : Keeps world.version s.trees old mid (is_part Grants)
-  first = keeps_but world.version old s.trees (parts_there old world s) mid Grants tt put.others
+  first : Keeps world.version s.trees old mid (is_part the_table.Grant)
+  first = keeps_but world.version old s.trees (parts_there old world s) mid the_table.Grant tt put.others
 
   it : HasCredited sums s.trees mid new
-  it = credits world.version s.trees (subst (λ (x : Schema). HasTables world.version x s.trees) (sym put.schema) s.tables) put.sound (subst (IsShaped shape.Table) (sym (first Hosts tt refl)) s.rows.hosts.shaped)
+  it = credits world.version s.trees (subst (λ (x : Schema). HasTables world.version x s.trees) (sym put.schema) s.tables) put.sound (subst (IsShaped shape.Table) (sym (first the_table.Host tt refl)) s.rows.hosts.shaped)
 
-  second : Keeps world.version s.trees mid new (is_part Hosts)
-  second = keeps_calm world.version mid s.trees (subst (λ (x : Schema). HasParts world.version x s.trees) (sym put.schema) (parts_there old world s)) new Hosts tt refl it.others
+  second : Keeps world.version s.trees mid new (is_part the_table.Host)
+  second = keeps_calm world.version mid s.trees (subst (λ (x : Schema). HasParts world.version x s.trees) (sym put.schema) (parts_there old world s)) new the_table.Host tt refl it.others
 
   with_both : IsNextPlace place world.grants → AreSums sums more → Refines new (with_grants more world)
-  with_both next are = frame old new world (with_grants more world) s of_grants (in_version old new world s more) (it.schema ∙ put.schema) refl (keeps_both world.version s.trees old mid new (is_part Grants) (is_part Hosts) first second) (carry old new world s more)
-      (fits old new world s more (lists_still (second Grants tt refl) (put.rows world.grants next s.rows.grants)) (it.hosts world.grants more are (holds_still (first Hosts tt refl) s.rows.hosts))) it.sound
+  with_both next are = frame old new world (with_grants more world) s of_grants (in_version old new world s more) (it.schema ∙ put.schema) refl (keeps_both world.version s.trees old mid new (is_part the_table.Grant) (is_part the_table.Host) first second) (carry old new world s more)
+      (fits old new world s more (lists_still (second the_table.Grant tt refl) (put.rows world.grants next s.rows.grants)) (it.hosts world.grants more are (holds_still (first the_table.Host tt refl) s.rows.hosts))) it.sound
 
   beside : (marked : List (ℕ × Marks)) → HasQueue old marked → HasQueue new marked
   beside marked q =
       let listed = queue_listed old world s marked q in
-      let calm = subst (λ (x : Schema). IsCalm x Enforced (queue_at q.tree) s.trees.host) (sym put.schema) (queue_calm old world s marked q Hosts tt refl) in
+      let calm = subst (λ (x : Schema). IsCalm x Enforced (queue_at q.tree) (s.trees the_table.Host)) (sym put.schema) (queue_calm old world s marked q the_table.Host tt refl) in
       queue_still old new marked q (it.schema ∙ put.schema)
-      (it.others (queue_at q.tree) (subst (λ (x : Schema). Has x.tables (queue_at q.tree)) (sym put.schema) listed) (λ same. queue_apart old world s marked q Hosts tt (sym same)) calm
-      ∙ put.others (queue_at q.tree) listed (λ same. queue_apart old world s marked q Grants tt (sym same)))
+      (it.others (queue_at q.tree) (subst (λ (x : Schema). Has x.tables (queue_at q.tree)) (sym put.schema) listed) (λ same. queue_apart old world s marked q the_table.Host tt (sym same)) calm
+      ∙ put.others (queue_at q.tree) listed (λ same. queue_apart old world s marked q the_table.Grant tt (sym same)))
 
   spares_grants : SparesOthers old new
   spares_grants =
       let tables : HasTables world.version mid.schema s.trees = subst (λ (x : Schema). HasTables world.version x s.trees) (sym put.schema) s.tables in
-      let one = others_still old mid put.schema (λ t is. put.others t is.there (others_apart old.schema t (codes "credit_grant") (grant_at s.trees.grant) is s.tables.grant ours_grant)) in
-      let two = others_still mid new it.schema (λ t is. it.others t is.there (others_apart mid.schema t (codes "host") (host_at s.trees.host) is tables.host ours_host) (others_calm mid.schema t s.trees.host is)) in
+      let one = others_still old mid put.schema (λ t is. put.others t is.there (others_apart old.schema t (codes "credit_grant") (grant_at (s.trees the_table.Grant)) is (s.tables.each the_table.Grant tt) ours_grant)) in
+      let two = others_still mid new it.schema (λ t is. it.others t is.there (others_apart mid.schema t (codes "host") (host_at (s.trees the_table.Host)) is (tables.each the_table.Host tt) ours_host) (others_calm mid.schema t (s.trees the_table.Host) is)) in
       others_then old mid new one.1 two.1
 
 pub adds_grants : (old mid new : Database) (place : ℕ) (more : List Grant) (sums : List HostSum) → PutsGrants place more old mid → Credits sums mid new → AddsGrants place more sums old new

@@ -21,7 +21,9 @@ use Rattle.wu_schema.proofs.CalmLemmas.{calm_bare, stepped}
 use Rattle.wu_schema.proofs.ExprLemmas.{column as column_of, equals, parameter, same, scope, so_far}
 use Rattle.wu_schema.proofs.InsertEffect.{cast_null, puts_one}
 use Rattle.wu_schema.proofs.InsertTexts.{Put, PutFits}
-use Rattle.wu_schema.proofs.Parts.{Holds, HostClasses, Part, frame_one, is_part, keeps_calm, parts_there}
+use Rattle.wu_schema.proofs.Parts.{Holds, frame_one, is_part, keeps_calm, parts_there}
+use Rattle.wu_schema.specs.declared.table.ProjectTable.{ProjectTable}
+use Rattle.wu_schema.specs.declared.table.ProjectTable.TheVariants as the_table
 use Rattle.wu_schema.proofs.QueryLemmas.{alone, plain_query}
 use Rattle.wu_schema.proofs.QueueLemmas.{queue_apart, queue_beside, queue_calm, queue_listed, queue_still}
 use Rattle.wu_schema.proofs.RowLemmas.{filter_same, int_value, one_test}
@@ -158,22 +160,22 @@ others_left host rows classes h =
     }
 
 module _ (old new : State) (world : World) (known : KnowsClasses world) (s : Refines old.now world) (host : List ℕ) (count : ℕ) (ran : Executes cut_text (Text host ∷ []) old new (Ok count)) where
-  cut : Cuts old.now new.now s.trees.host_class host
-  cut = cuts old new s.trees.host_class (s.tables.host_class known) host count ran
+  cut : Cuts old.now new.now (s.trees the_table.HostClass) host
+  cut = cuts old new (s.trees the_table.HostClass) (s.tables.each the_table.HostClass known) host count ran
 
   host_goes : Refines new.now (without_host host world)
-  host_goes = frame_one old.now new.now world (without_host host world) s HostClasses known cut.schema refl (keeps_calm world.version old.now s.trees (parts_there old.now world s) new.now HostClasses known refl cut.others) carry (
-    subst (λ rs. HoldsAll rs (map class_cells (filter (is_other host) world.classes))) (sym (cut.rows (s.rows.classes known).hosts.shaped)) (others_left host (old.now.trees s.trees.host_class) world.classes (s.rows.classes known).hosts),
+  host_goes = frame_one old.now new.now world (without_host host world) s the_table.HostClass known cut.schema refl (keeps_calm world.version old.now s.trees (parts_there old.now world s) new.now the_table.HostClass known refl cut.others) carry (
+    subst (λ rs. HoldsAll rs (map class_cells (filter (is_other host) world.classes))) (sym (cut.rows (s.rows.classes known).hosts.shaped)) (others_left host (old.now.trees (s.trees the_table.HostClass)) world.classes (s.rows.classes known).hosts),
     AllPairs-filter Before (is_other host) world.classes s.rows.classes_in_order,
   ) cut.sound
     where
-      carry : (p : Part) → is_part HostClasses p ≡ false → (rs : List Row) → Holds p rs world → Holds p rs (without_host host world)
-      carry HostClasses off rs h = absurd (cc)
+      carry : (p : ProjectTable) → is_part the_table.HostClass p ≡ false → (rs : List Row) → Holds p rs world → Holds p rs (without_host host world)
+      carry the_table.HostClass off rs h = absurd (cc)
       carry _ off rs h = h
 
   cut_leaves : (marked : List (ℕ × Marks)) → HasQueue old.now marked → HasQueue new.now marked
   cut_leaves marked q = queue_still old.now new.now marked q cut.schema
-      (cut.others (queue_at q.tree) (queue_listed old.now world s marked q) (λ same. queue_apart old.now world s marked q HostClasses known (sym same)) (queue_calm old.now world s marked q HostClasses known refl))
+      (cut.others (queue_at q.tree) (queue_listed old.now world s marked q) (λ same. queue_apart old.now world s marked q the_table.HostClass known (sym same)) (queue_calm old.now world s marked q the_table.HostClass known refl))
 
 -- ---- a class for a host that has none
 
@@ -189,27 +191,27 @@ put_kept tree it = simp (cast_null, cast_number)
 
 module _ (old new : State) (world : World) (known : KnowsClasses world) (s : Refines old.now world) (it : HostClass) (count : ℕ) (ran : Executes host_put.text (class_cells it) old new (Ok count)) where
   abbrev tree : ℕ
-  tree = s.trees.host_class
+  tree = (s.trees the_table.HostClass)
 
   abbrev new_row : Row
   new_row = Int (next_rowid (old.now.trees tree)) ∷ class_cells it
 
   put : PutsOne old.now new.now tree new_row
-  put = let has = s.tables.host_class known in puts_one (codes "host_class") host_class_at host_put host_fits (class_cells it) old new has.0 tree has.1 (Null ∷ class_cells it) _ (put_kept tree it) refl count ran
+  put = let has = s.tables.each the_table.HostClass known in puts_one (codes "host_class") host_class_at host_put host_fits (class_cells it) old new has.0 tree has.1 (Null ∷ class_cells it) _ (put_kept tree it) refl count ran
 
   host_comes : has_class it.host world.classes ≡ false → Refines new.now (with_classed_host it.host it.class world)
-  host_comes none = frame_one old.now new.now world (with_classed_host it.host it.class world) s HostClasses known put.schema refl (keeps_put old.now new.now world s HostClasses new_row known put) carry (
+  host_comes none = frame_one old.now new.now world (with_classed_host it.host it.class world) s the_table.HostClass known put.schema refl (keeps_put old.now new.now world s the_table.HostClass new_row known put) carry (
     holds_permuted (subst (λ cs. IsPermutation cs (map class_cells (with_class it.host it.class world.classes))) (map-append class_cells world.classes (it ∷ [])) (IsPermutation-map class_cells _ _ (class_comes it.host it.class world.classes none)))
         (subst (λ rs. HoldsAll rs (map class_cells world.classes ++ class_cells it ∷ [])) (sym put.rows) (holds_put (class_cells it) (map class_cells world.classes) (old.now.trees tree) put.fresh (s.rows.classes known).hosts)),
     in_order-set it.host it.class world.classes s.rows.classes_in_order,
   ) put.sound
     where
-      carry : (p : Part) → is_part HostClasses p ≡ false → (rs : List Row) → Holds p rs world → Holds p rs (with_classed_host it.host it.class world)
-      carry HostClasses off rs h = absurd (cc)
+      carry : (p : ProjectTable) → is_part the_table.HostClass p ≡ false → (rs : List Row) → Holds p rs world → Holds p rs (with_classed_host it.host it.class world)
+      carry the_table.HostClass off rs h = absurd (cc)
       carry _ off rs h = h
 
   put_leaves : (marked : List (ℕ × Marks)) → HasQueue old.now marked → HasQueue new.now marked
-  put_leaves marked q = queue_beside old.now world s marked q new.now HostClasses known new_row put
+  put_leaves marked q = queue_beside old.now world s marked q new.now the_table.HostClass known new_row put
 
 -- ---- one, and then the other
 

@@ -6,7 +6,7 @@ use Rattle.wu_schema.proofs.RowLemmas.{one_test}
 use Rattle.wu_schema.proofs.PutLemmas.{number_less}
 use Rattle.wu_store.proofs.InstanceLemmas.{fits, instances_left}
 use Rattle.wu_store.proofs.SelectTexts.{instances_asked, instances_fits, instances_tests, instances_shows}
-use Rattle.wu_schema.proofs.Parts.{Instances}
+use Rattle.wu_schema.specs.declared.table.ProjectTable.TheVariants as the_table
 use Rattle.wu_store.proofs.ReadAnswers.{asked_answers, find_only, once_numbered}
 use Rattle.wu_store.proofs.OrderAnswers.{behind_rowid, by_key, pair, passing, sure_sorted}
 
@@ -66,13 +66,13 @@ module _ (tree n : ℕ) where
 module _ (old new : State) (world : World) (s : Refines old.now world) (n : ℕ) where
   pub instances_found : (rows : List Row) → Shown instances_asked.text (number n ∷ []) old new rows → rows ≡ instance_rows_of n world
   instances_found rows h =
-      let tree = s.trees.result in
+      let tree = (s.trees the_table.Result) in
       let ws = world.workunits in
       let stored = old.now.trees tree in
       let of_n = numbered n world in
-      let read = asked_answers Instances instances_asked instances_fits old new world s tt (number n ∷ []) rows h in
+      let read = asked_answers the_table.Result instances_asked instances_fits old new world s tt (number n ∷ []) rows h in
       let one : filter (fits n (λ b. b)) (flat_map instances_of ws) ≡ found_cells of_n = instances_left n (λ b. b) ws ∙ ap (flat_map instances_of) (find_only (λ (w : Workunit). w.number == n) ws (once_numbered n ws (subst IsTable s.rows.workunits.same s.rows.workunits.shaped.0))) ∙ listed_from instances_of of_n in
       let cells = IsPermutation-map cell_pair _ _ (IsPermutation-filter (fits n (λ b. b)) (flat_map instances_of ws) (map (drop 1) stored) s.rows.instances.same) in
       let same : IsPermutation (map cell_pair (found_cells of_n)) (map (row_pair tree n) (filter (row_passes tree n) stored)) =
       subst (IsPermutation (map cell_pair (found_cells of_n))) (sym (behind_rowid (row_passes tree n) (fits n (λ b. b)) (row_pair tree n) cell_pair (tested tree n) (paired tree n) stored)) (subst (λ cs. IsPermutation (map cell_pair cs) (map cell_pair (filter (fits n (λ b. b)) (map (drop 1) stored)))) one cells) in
-      sure_sorted tree instances_tests instances_shows 2 false (lit (Int (negsuc 0))) (number n ∷ []) old.now rows (map cell_pair (found_cells of_n)) s.tables.result.1.low (found_rise of_n) same read.answer ∙ found_shown of_n
+      sure_sorted tree instances_tests instances_shows 2 false (lit (Int (negsuc 0))) (number n ∷ []) old.now rows (map cell_pair (found_cells of_n)) (s.tables.each the_table.Result tt).1.low (found_rise of_n) same read.answer ∙ found_shown of_n

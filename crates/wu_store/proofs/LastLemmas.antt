@@ -10,25 +10,28 @@ use Rattle.wu_schema.proofs.RowLemmas.{no_test}
 use Rattle.wu_store.specs.Answers.{last_archived, last_grant, last_of, last_place}
 use Rattle.wu_store.proofs.AskLemmas.{IsQuestion}
 use Rattle.wu_store.proofs.OrderAnswers.{in_order, pair, passing, sorted, sure_sorted}
-use Rattle.wu_schema.proofs.Parts.{Part, Grants, Archive, IsIn, table_in, table_of, tree_in, name_of, parts_there}
+use Rattle.wu_schema.proofs.Parts.{table_of, parts_there}
+use Rattle.wu_schema.specs.declared.table.ProjectTable.{ProjectTable}
+use Rattle.wu_schema.specs.declared.table.ProjectTable.TheVariants as the_table
+use Rattle.wu_schema.specs.ProjectTables.{IsTableOf, table_at, name_of}
 use Rattle.wu_store.specs.declared.texts.TheConstants.{SELECT_LAST_ARCHIVED, SELECT_LAST_GRANT}
 
 -- the first column of the last row in its order
 abbrev last_asked : List ℕ → Asked
 last_asked text = record { text = text; parameters = []; shown = 0 ∷ []; tests = []; order = 0 ∷ []; limit = Some (roll-Expr (Expr-F.Integer (codes "1"))); upto = lit (Int (pos 1)) }
 
-abbrev IsLast : Part → List ℕ → Type 0
-IsLast p text = (tree : ℕ) → FitsBy (name_of p) (table_in p tree) (last_asked text) true
+abbrev IsLast : ProjectTable → List ℕ → Type 0
+IsLast p text = (tree : ℕ) → FitsBy (name_of p) (table_at p tree) (last_asked text) true
 
 -- ---- what it asks
 
-pub last_question : (p : Part) → ((version : ℕ) → IsIn p version) → (text : List ℕ) → IsLast p text → IsQuestion text [] Refines
+pub last_question : (p : ProjectTable) → ((version : ℕ) → IsTableOf p version) → (text : List ℕ) → IsLast p text → IsQuestion text [] Refines
 last_question p in_p text fits = record {
-  select = record { parsed = parsed_by (name_of p) (table_in p 0) (last_asked text) true; select = select_by (name_of p) (table_in p 0) (last_asked text) true; read = (fits 0).read; is = refl };
+  select = record { parsed = parsed_by (name_of p) (table_at p 0) (last_asked text) true; select = select_by (name_of p) (table_at p 0) (last_asked text) true; read = (fits 0).read; is = refl };
   told = λ old new e h world s unlimited.
       let has = parts_there old.now world s p (in_p world.version) in
       let table = table_of s.trees p in
-      let fit = fits (tree_in s.trees p) in
+      let fit = fits (s.trees p) in
       query_told text [] old new (parsed_by (name_of p) table (last_asked text) true) (query_by (name_of p) table (last_asked text) true) _ (compiles_by old.now.schema (name_of p) has.0 table has.1 (last_asked text) true fit) (omega arith) refl
       (accepts_by old.now.schema (name_of p) has.0 table has.1 (last_asked text) true fit [] fit.typed) (never_over table.tree (query_by (name_of p) table (last_asked text) true) [] (terms_of (name_of p) table (last_asked text)) old.now.trees [] refl refl) unlimited e h;
 }
@@ -68,7 +71,7 @@ first_down (suc n) = refl
 
 -- ---- the answer
 
-module _ (p : Part) (text : List ℕ) (fits : IsLast p text) (old new : State) (world : World) (s : Refines old.now world) (in_p : IsIn p world.version) where
+module _ (p : ProjectTable) (text : List ℕ) (fits : IsLast p text) (old new : State) (world : World) (s : Refines old.now world) (in_p : IsTableOf p world.version) where
   abbrev table : Table
   table = table_of s.trees p
 
@@ -79,7 +82,7 @@ module _ (p : Part) (text : List ℕ) (fits : IsLast p text) (old new : State) (
   pub last_found : {X : Type 0} → query_by (name_of p) table (last_asked text) true ≡ sorted table.tree [] (col 1 0 ∷ []) 0 true (lit (Int (pos 1))) [] → (stored : ℕ × X → Row) → ((q : ℕ × X) → column (stored q) 0 ≡ number q.0) → (xs : List X) → old.now.trees table.tree ≡ map stored (enumerate_from 1 xs) → (rows : List Row) → Shown text [] old new rows → rows ≡ option_to_list (last_place xs)
   last_found keyed stored numbered xs are rows h =
       let has = parts_there old.now world s p in_p in
-      let answers = shown_answers text [] old new _ _ _ (compiles_by old.now.schema (name_of p) has.0 table has.1 (last_asked text) true (fits (tree_in s.trees p))) rows h in
+      let answers = shown_answers text [] old new _ _ _ (compiles_by old.now.schema (name_of p) has.0 table has.1 (last_asked text) true (fits (s.trees p))) rows h in
       let sure : Answers old.now (alone (sorted table.tree [] (col 1 0 ∷ []) 0 true (lit (Int (pos 1))) [])) [] rows = subst (λ query. Answers old.now (alone query) [] rows) keyed answers in
       let listed : ups 1 xs ≡ map seen (old.now.trees table.tree) =
       (λ i. map (λ q. (sym (numbered q) i ∷ [], sym (numbered q) i ∷ [])) (enumerate_from 1 xs)) ∙ sym (map-map seen stored (enumerate_from 1 xs)) ∙ ap (map seen) (sym are) in
@@ -93,20 +96,20 @@ module _ (p : Part) (text : List ℕ) (fits : IsLast p text) (old new : State) (
 abbrev pub grant_text : List ℕ
 grant_text = SELECT_LAST_GRANT.now
 
-pub grant_fits : IsLast Grants grant_text
+pub grant_fits : IsLast the_table.Grant grant_text
 unfolding everything
 grant_fits tree = record { shown = refl; tests = refl; strict = refl; order = refl; height = (0, tt); few = omega arith; limit = λ schema. refl; read = refl; typed = refl }
 
 abbrev pub archived_text : List ℕ
 archived_text = SELECT_LAST_ARCHIVED.now
 
-pub archived_fits : IsLast Archive archived_text
+pub archived_fits : IsLast the_table.Archived archived_text
 unfolding everything
 archived_fits tree = record { shown = refl; tests = refl; strict = refl; order = refl; height = (0, tt); few = omega arith; limit = λ schema. refl; read = refl; typed = refl }
 
 module _ (old new : State) (world : World) (s : Refines old.now world) (rows : List Row) where
   pub grant_found : Shown grant_text [] old new rows → rows ≡ option_to_list (last_grant world)
-  grant_found = last_found Grants grant_text grant_fits old new world s tt refl stored_grant (λ q. refl) world.grants s.rows.grants.same rows
+  grant_found = last_found the_table.Grant grant_text grant_fits old new world s tt refl stored_grant (λ q. refl) world.grants s.rows.grants.same rows
 
   pub archived_found : Shown archived_text [] old new rows → rows ≡ option_to_list (last_archived world)
-  archived_found = last_found Archive archived_text archived_fits old new world s tt refl stored_archived (λ q. refl) world.archived s.rows.archived.same rows
+  archived_found = last_found the_table.Archived archived_text archived_fits old new world s tt refl stored_archived (λ q. refl) world.archived s.rows.archived.same rows

@@ -1,7 +1,9 @@
 -- A table that lists things in order of their making, from 1: grants, and archived rows.
 use Rattle.wu_schema.proofs.Words.{AllByRecursion, Archived, Database, IsShaped-put_row, Less, List, ListsAll, Null, PutsOne, Row, Refines, World, [], ap, archived_cells, arith, enumerate_from, false, length, map, map-append, number, put_row, refl, rowid, stored_archived, sym, value_cmp, ℕ, ◌++◌, ◌+◌, ◌<◌, ◌∙◌, ◌∷◌, ◌≡◌}
 use Rattle.wu_store.specs.Changes.{IsNextPlace, with_archived}
-use Rattle.wu_schema.proofs.Parts.{Part, Archive, Holds, is_part, frame_one}
+use Rattle.wu_schema.proofs.Parts.{Holds, is_part, frame_one}
+use Rattle.wu_schema.specs.declared.table.ProjectTable.{ProjectTable}
+use Rattle.wu_schema.specs.declared.table.ProjectTable.TheVariants as the_table
 use Rattle.wu_schema.proofs.StandsLemmas.{lists_still}
 use Rattle.wu_schema.proofs.PutLemmas.{put_last, number_less}
 use Rattle.wu_store.proofs.PlacedLemmas.{enumerate_more, keeps_put}
@@ -30,11 +32,11 @@ module _ {X : Type 0} (cells : X → Row) where
       }
 
 -- an archived row behind the others
-pub stands_with_archived : (old new : Database) (world : World) (s : Refines old world) (place : ℕ) (a : Archived) → PutsOne old new s.trees.archived (stored_archived (place, a)) → IsNextPlace place world.archived → Refines new (with_archived a world)
+pub stands_with_archived : (old new : Database) (world : World) (s : Refines old world) (place : ℕ) (a : Archived) → PutsOne old new (s.trees the_table.Archived) (stored_archived (place, a)) → IsNextPlace place world.archived → Refines new (with_archived a world)
 stands_with_archived old new world s place a put next =
-    frame_one old new world (with_archived a world) s Archive tt put.schema refl (keeps_put old new world s Archive (stored_archived (place, a)) tt put) carry
-    (lists_still put.rows (listed_next archived_cells (old.trees s.trees.archived) world.archived place a next s.rows.archived)) put.sound
+    frame_one old new world (with_archived a world) s the_table.Archived tt put.schema refl (keeps_put old new world s the_table.Archived (stored_archived (place, a)) tt put) carry
+    (lists_still put.rows (listed_next archived_cells (old.trees (s.trees the_table.Archived)) world.archived place a next s.rows.archived)) put.sound
   where
-    carry : (q : Part) → is_part Archive q ≡ false → (rows : List Row) → Holds q rows world → Holds q rows (with_archived a world)
-    carry Archive off rows h = absurd (cc)
+    carry : (q : ProjectTable) → is_part the_table.Archived q ≡ false → (rows : List Row) → Holds q rows world → Holds q rows (with_archived a world)
+    carry the_table.Archived off rows h = absurd (cc)
     carry _ off rows h = h

@@ -10,7 +10,7 @@ use Rattle.wu_store.specs.Answers.{first_above}
 use Rattle.wu_store.proofs.EqualLemmas.{number_above}
 use Rattle.wu_schema.proofs.QueryLemmas.{plain_query}
 use Rattle.wu_store.proofs.SelectTexts.{all_shows, above_asked, above_fits, above_tests}
-use Rattle.wu_schema.proofs.Parts.{Workunits}
+use Rattle.wu_schema.specs.declared.table.ProjectTable.TheVariants as the_table
 use Rattle.wu_store.proofs.ReadAnswers.{asked_answers}
 use Rattle.wu_schema.proofs.RowLemmas.{filter_same, one_test}
 use Rattle.wu_store.proofs.OneOrder.{one_order}
@@ -137,6 +137,6 @@ module _ (n : ℕ) where
 module _ (old new : State) (world : World) (s : Refines old.now world) (n : ℕ) where
   pub above_found : (rows : List Row) → Shown above_asked.text (number n ∷ []) old new rows → rows ≡ option_to_list (option_map workunit_row (first_above n world))
   above_found rows h =
-      let tree = s.trees.workunit in
-      let read = asked_answers Workunits above_asked above_fits old new world s tt (number n ∷ []) rows h in
-      sure_in_order tree above_tests all_shows (lit (Int (pos 1))) (number n ∷ []) old.now rows s.tables.workunit.1.low s.rows.workunits.shaped.0 read.answer ∙ ap (λ rs. take 1 (map (row_shown n) (filter (exceeds n) rs))) s.rows.workunits.same ∙ first_shown n world.workunits
+      let tree = (s.trees the_table.Workunit) in
+      let read = asked_answers the_table.Workunit above_asked above_fits old new world s tt (number n ∷ []) rows h in
+      sure_in_order tree above_tests all_shows (lit (Int (pos 1))) (number n ∷ []) old.now rows (s.tables.each the_table.Workunit tt).1.low s.rows.workunits.shaped.0 read.answer ∙ ap (λ rs. take 1 (map (row_shown n) (filter (exceeds n) rs))) s.rows.workunits.same ∙ first_shown n world.workunits

@@ -16,7 +16,10 @@ use Rattle.wu_schema.proofs.StandsLemmas.{but_one, no_instances, cells_put, list
 use Rattle.wu_schema.proofs.QuietLemmas.{same_some}
 use Rattle.wu_schema.specs.Stored.{workunit_cells}
 use Rattle.wu_schema.specs.Tables.{IsClassedVersion}
-use Rattle.wu_schema.proofs.Parts.{Part, Workunits, Instances, HostClasses, WorkClasses, HasParts, tree_in, Holds, is_part, IsIn, Keeps, parts_there, keeps_both, keeps_but, either_false, frame, frame_one}
+use Rattle.wu_schema.proofs.Parts.{HasParts, Holds, is_part, Keeps, parts_there, keeps_both, keeps_but, either_false, frame, frame_one}
+use Rattle.wu_schema.specs.declared.table.ProjectTable.{ProjectTable}
+use Rattle.wu_schema.specs.declared.table.ProjectTable.TheVariants as the_table
+use Rattle.wu_schema.specs.ProjectTables.{IsTableOf}
 
 -- numbers rise
 abbrev pub Rises : List Workunit → Type 0
@@ -186,59 +189,59 @@ holds_put cells before rows free h = record { shaped = IsShaped-put_row (Int (ne
 
 module _ (old new : Database) (world : World) (s : Refines old world) where
   -- beside a row that is put in
-  pub keeps_put : (p : Part) (row : Row) → IsIn p world.version → PutsOne old new (tree_in s.trees p) row → Keeps world.version s.trees old new (is_part p)
-  keeps_put p row in_p put = keeps_but world.version old s.trees (parts_there old world s) new p in_p (but_one old new (tree_in s.trees p) row put)
+  pub keeps_put : (p : ProjectTable) (row : Row) → IsTableOf p world.version → PutsOne old new (s.trees p) row → Keeps world.version s.trees old new (is_part p)
+  keeps_put p row in_p put = keeps_but world.version old s.trees (parts_there old world s) new p in_p (but_one old new (s.trees p) row put)
 
   -- since its row was put in, no workunit had its number
-  pub was_free : (w : Workunit) → PutsOne old new s.trees.workunit (stored_workunit w) → LacksNumber w.number world.workunits
+  pub was_free : (w : Workunit) → PutsOne old new (s.trees the_table.Workunit) (stored_workunit w) → LacksNumber w.number world.workunits
   was_free w put = absent_from w world.workunits (subst (λ rs. is_taken rs (stored_workunit w) ≡ false) s.rows.workunits.same put.fresh)
 
   -- an instance behind those of its workunit
-  pub stands_with_instance : (number n : ℕ) (i : Instance) → PutsOne old new s.trees.result (Int (next_rowid (old.trees s.trees.result)) ∷ instance_cells number n i) → HasInstances number n world.workunits → Refines new (with_instance number i world)
+  pub stands_with_instance : (number n : ℕ) (i : Instance) → PutsOne old new (s.trees the_table.Result) (Int (next_rowid (old.trees (s.trees the_table.Result))) ∷ instance_cells number n i) → HasInstances number n world.workunits → Refines new (with_instance number i world)
   stands_with_instance number n i put has =
-      frame_one old new world (with_instance number i world) s Instances tt put.schema refl (keeps_put Instances (Int (next_rowid (old.trees s.trees.result)) ∷ instance_cells number n i) tt put) carry
+      frame_one old new world (with_instance number i world) s the_table.Result tt put.schema refl (keeps_put the_table.Result (Int (next_rowid (old.trees (s.trees the_table.Result))) ∷ instance_cells number n i) tt put) carry
       (holds_permuted (instance_brings number n i world.workunits (table_rises world.workunits (subst IsTable s.rows.workunits.same s.rows.workunits.shaped.0)) has)
-      (subst (λ rs. HoldsAll rs (flat_map instances_of world.workunits ++ instance_cells number n i ∷ [])) (sym put.rows) (holds_put (instance_cells number n i) (flat_map instances_of world.workunits) (old.trees s.trees.result) put.fresh s.rows.instances)))
+      (subst (λ rs. HoldsAll rs (flat_map instances_of world.workunits ++ instance_cells number n i ∷ [])) (sym put.rows) (holds_put (instance_cells number n i) (flat_map instances_of world.workunits) (old.trees (s.trees the_table.Result)) put.fresh s.rows.instances)))
       put.sound
     where
-      carry : (q : Part) → is_part Instances q ≡ false → (rows : List Row) → Holds q rows world → Holds q rows (with_instance number i world)
-      carry Workunits off rows h = subst (ListsAll rows) (sym (map_stays (λ (w : Workunit). w.number == number) (λ w. record w { instances = w.instances ++ i ∷ [] }) stored_workunit (λ w on. refl) world.workunits)) h
-      carry WorkClasses off rows h = subst (ListsAll rows) (sym (map_stays (λ (w : Workunit). w.number == number) (λ w. record w { instances = w.instances ++ i ∷ [] }) stored_class (λ w on. refl) world.workunits)) h
-      carry Instances off rows h = absurd (cc)
+      carry : (q : ProjectTable) → is_part the_table.Result q ≡ false → (rows : List Row) → Holds q rows world → Holds q rows (with_instance number i world)
+      carry the_table.Workunit off rows h = subst (ListsAll rows) (sym (map_stays (λ (w : Workunit). w.number == number) (λ w. record w { instances = w.instances ++ i ∷ [] }) stored_workunit (λ w on. refl) world.workunits)) h
+      carry the_table.WorkunitClass off rows h = subst (ListsAll rows) (sym (map_stays (λ (w : Workunit). w.number == number) (λ w. record w { instances = w.instances ++ i ∷ [] }) stored_class (λ w on. refl) world.workunits)) h
+      carry the_table.Result off rows h = absurd (cc)
       carry _ off rows h = h
 
 -- a workunit that has no instances yet, and its class; since its row was put in, no other had its number
-module _ (old mid new : Database) (world : World) (s : Refines old world) (known : IsClassedVersion world.version) (w : Workunit) (put : PutsOne old mid s.trees.workunit (stored_workunit w)) (class : PutsOne mid new s.trees.workunit_class (stored_class w)) where
-  abbrev is_new : Part → Bool
-  is_new q = is_part Workunits q || is_part WorkClasses q
+module _ (old mid new : Database) (world : World) (s : Refines old world) (known : IsClassedVersion world.version) (w : Workunit) (put : PutsOne old mid (s.trees the_table.Workunit) (stored_workunit w)) (class : PutsOne mid new (s.trees the_table.WorkunitClass) (stored_class w)) where
+  abbrev is_new : ProjectTable → Bool
+  is_new q = is_part the_table.Workunit q || is_part the_table.WorkunitClass q
 
-  first : Keeps world.version s.trees old mid (is_part Workunits)
-  first = keeps_put old mid world s Workunits (stored_workunit w) tt put
+  first : Keeps world.version s.trees old mid (is_part the_table.Workunit)
+  first = keeps_put old mid world s the_table.Workunit (stored_workunit w) tt put
 
-  second : Keeps world.version s.trees mid new (is_part WorkClasses)
-  second = keeps_but world.version mid s.trees (subst (λ (x : Schema). HasParts world.version x s.trees) (sym put.schema) (parts_there old world s)) new WorkClasses known (but_one mid new s.trees.workunit_class (stored_class w) class)
+  second : Keeps world.version s.trees mid new (is_part the_table.WorkunitClass)
+  second = keeps_but world.version mid s.trees (subst (λ (x : Schema). HasParts world.version x s.trees) (sym put.schema) (parts_there old world s)) new the_table.WorkunitClass known (but_one mid new (s.trees the_table.WorkunitClass) (stored_class w) class)
 
   brings : w.instances ≡ [] → IsPermutation (flat_map instances_of world.workunits) (flat_map instances_of (placed w world.workunits))
   brings none = subst (λ front. IsPermutation (front ++ flat_map instances_of world.workunits) (flat_map instances_of (placed w world.workunits))) (no_instances w none) (placed_brings instances_of w world.workunits (was_free old mid world s w put))
 
-  carry : w.instances ≡ [] → (q : Part) → is_new q ≡ false → (rows : List Row) → Holds q rows world → Holds q rows (with_placed w world)
-  carry none Workunits off rows h = absurd (cc)
-  carry none WorkClasses off rows h = absurd (cc)
-  carry none Instances off rows h = holds_permuted (brings none) h
+  carry : w.instances ≡ [] → (q : ProjectTable) → is_new q ≡ false → (rows : List Row) → Holds q rows world → Holds q rows (with_placed w world)
+  carry none the_table.Workunit off rows h = absurd (cc)
+  carry none the_table.WorkunitClass off rows h = absurd (cc)
+  carry none the_table.Result off rows h = holds_permuted (brings none) h
   carry none _ off rows h = h
 
-  has_new : (q : Part) → is_new q ≡ true → IsIn q world.version
-  has_new HostClasses on = absurd (cc)
-  has_new WorkClasses on = known
+  has_new : (q : ProjectTable) → is_new q ≡ true → IsTableOf q world.version
+  has_new the_table.HostClass on = absurd (cc)
+  has_new the_table.WorkunitClass on = known
   has_new _ on = tt
 
-  fits : (q : Part) → is_new q ≡ true → Holds q (new.trees (tree_in s.trees q)) (with_placed w world)
-  fits Workunits on = lists_still (second Workunits tt refl ∙ put.rows) (lists_at_place (λ (v : Workunit). v.number) (λ v. Null ∷ workunit_cells v) w world.workunits (old.trees s.trees.workunit) s.rows.workunits)
-  fits WorkClasses on = lists_still (class.rows ∙ ap (put_row (stored_class w)) (first WorkClasses known refl)) (lists_at_place (λ (v : Workunit). v.number) (λ v. Null ∷ number v.class ∷ []) w world.workunits (old.trees s.trees.workunit_class) (s.rows.classes known).workunits)
+  fits : (q : ProjectTable) → is_new q ≡ true → Holds q (new.trees (s.trees q)) (with_placed w world)
+  fits the_table.Workunit on = lists_still (second the_table.Workunit tt refl ∙ put.rows) (lists_at_place (λ (v : Workunit). v.number) (λ v. Null ∷ workunit_cells v) w world.workunits (old.trees (s.trees the_table.Workunit)) s.rows.workunits)
+  fits the_table.WorkunitClass on = lists_still (class.rows ∙ ap (put_row (stored_class w)) (first the_table.WorkunitClass known refl)) (lists_at_place (λ (v : Workunit). v.number) (λ v. Null ∷ number v.class ∷ []) w world.workunits (old.trees (s.trees the_table.WorkunitClass)) (s.rows.classes known).workunits)
   fits _ on = absurd (cc)
 
   pub stands_with_placed : w.instances ≡ [] → Refines new (with_placed w world)
-  stands_with_placed none = frame old new world (with_placed w world) s is_new has_new (class.schema ∙ put.schema) refl (keeps_both world.version s.trees old mid new (is_part Workunits) (is_part WorkClasses) first second) (carry none) fits class.sound
+  stands_with_placed none = frame old new world (with_placed w world) s is_new has_new (class.schema ∙ put.schema) refl (keeps_both world.version s.trees old mid new (is_part the_table.Workunit) (is_part the_table.WorkunitClass) first second) (carry none) fits class.sound
 
 -- one above all comes last, and no other has its number
 pub placed_above : (w : Workunit) (world : World) → IsAbove w.number world.workunits → with_placed w world ≡ with_workunit w world

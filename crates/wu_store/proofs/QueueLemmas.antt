@@ -5,7 +5,7 @@ use Rattle.wu_schema.specs.Queue.{HasQueue}
 use Rattle.wu_schema.specs.Stored.{flag, marks_cells, stored_marks}
 use Rattle.wu_schema.specs.Tables.{queue_at}
 use Rattle.wu_schema.proofs.InsertEffect.{cast_null, puts_one}
-use Rattle.wu_schema.proofs.Parts.{Project}
+use Rattle.wu_schema.specs.declared.table.ProjectTable.TheVariants as the_table
 use Rattle.wu_schema.proofs.QueueLemmas.{queue_apart, queue_calm, queue_child, queue_has, queue_listed, queue_still, world_beside}
 use Rattle.wu_schema.proofs.StandsLemmas.{lists_left, lists_still}
 use Rattle.wu_store.specs.Queues.{with_marks, without_marks}
@@ -44,13 +44,13 @@ module _ (old new : State) (world : World) (s : Refines old.now world) (marked :
   module _ (set : SetBy) (fits : SetsProject set) where
     pub project_leaves : (n count : ℕ) → Executes set.text (number n ∷ []) old new (Ok count) → HasQueue new.now marked
     project_leaves n count ran =
-        let it = updates_project old new s.trees.project s.tables.project (pos n) count set fits ran in
-        queue_still old.now new.now marked q it.schema (it.others (queue_at q.tree) (queue_listed old.now world s marked q) (λ same. queue_apart old.now world s marked q Project tt (sym same)) (queue_calm old.now world s marked q Project tt refl))
+        let it = updates_project old new (s.trees the_table.Project) (s.tables.each the_table.Project tt) (pos n) count set fits ran in
+        queue_still old.now new.now marked q it.schema (it.others (queue_at q.tree) (queue_listed old.now world s marked q) (λ same. queue_apart old.now world s marked q the_table.Project tt (sym same)) (queue_calm old.now world s marked q the_table.Project tt refl))
 
   -- the marks of a workunit go with it
   pub deletes_marks : (n count : ℕ) → Executes delete_text (number n ∷ []) old new (Ok count) → HasQueue new.now (without_marks n marked)
   deletes_marks n count ran =
-      let cut = cuts old new s.trees.workunit s.tables.workunit (pos n) count ran in
-      let gone = children_go old.now new.now s.trees.workunit s.tables.workunit (pos n) cut s.rows.workunits.shaped (queue_at q.tree) 0 (queue_child old.now world s marked q) q.rows.shaped in
+      let cut = cuts old new (s.trees the_table.Workunit) (s.tables.each the_table.Workunit tt) (pos n) count ran in
+      let gone = children_go old.now new.now (s.trees the_table.Workunit) (s.tables.each the_table.Workunit tt) (pos n) cut s.rows.workunits.shaped (queue_at q.tree) 0 (queue_child old.now world s marked q) q.rows.shaped in
       queue_has old.now new.now marked (without_marks n marked) q cut.schema
       (lists_still gone (lists_left stored_marks (λ r. equal Binary (column r 0) (number n)) (λ (p : ℕ × Marks). p.0 == n) (old.now.trees q.tree) marked (λ p. number_equal p.0 n) q.rows))

@@ -9,17 +9,20 @@ use Rattle.wu_store.proofs.WorldOnce.{bytes_same, once_named, once_number}
 pub use Rattle.wu_store.proofs.WorldOnce.{once_numbered}
 use Rattle.wu_schema.proofs.QueryLemmas.{alone, plain_query}
 use Rattle.wu_schema.proofs.RowLemmas.{filter_same, no_rows, one_test}
-use Rattle.wu_schema.proofs.Parts.{Part, Project, Workunits, Archive, Imports, IsIn, table_in, table_of, tree_in, name_of, parts_there}
+use Rattle.wu_schema.proofs.Parts.{table_of, parts_there}
+use Rattle.wu_schema.specs.declared.table.ProjectTable.{ProjectTable}
+use Rattle.wu_schema.specs.declared.table.ProjectTable.TheVariants as the_table
+use Rattle.wu_schema.specs.ProjectTables.{IsTableOf, table_at, name_of}
 use Rattle.wu_schema.proofs.SelectLemmas.{Asked, Fits, compiles, query_of, tests_of, terms_of}
 use Rattle.wu_store.proofs.SelectTexts.{import_asked, import_fits, import_tests, import_shows, workunit_asked, workunit_fits, workunit_tests, named_asked, named_fits, numbered_asked, numbered_fits, numbered_tests, all_shows, archived_asked, archived_fits, next_asked, next_fits, next_shows}
 
 -- a SELECT of a part of the project
-module _ (p : Part) (q : Asked) (fits : (tree : ℕ) → Fits (name_of p) (table_in p tree) q) (old new : State) (world : World) (s : Refines old.now world) (in_p : IsIn p world.version) (params : Row) (rows : List Row) where
+module _ (p : ProjectTable) (q : Asked) (fits : (tree : ℕ) → Fits (name_of p) (table_at p tree) q) (old new : State) (world : World) (s : Refines old.now world) (in_p : IsTableOf p world.version) (params : Row) (rows : List Row) where
   abbrev table : Table
   table = table_of s.trees p
 
   pub asked_answers : Shown q.text params old new rows → Answers old.now (alone (query_of (name_of p) table q)) params rows
-  asked_answers h = let has = parts_there old.now world s p in_p in shown_answers q.text params old new _ _ _ (compiles old.now.schema (name_of p) has.0 table has.1 q (fits (tree_in s.trees p))) rows h
+  asked_answers h = let has = parts_there old.now world s p in_p in shown_answers q.text params old new _ _ _ (compiles old.now.schema (name_of p) has.0 table has.1 q (fits (s.trees p))) rows h
 
   -- one with no order: the rows that meet its tests, as it shows them, in some order
   pub asked_rows : query_of (name_of p) table q ≡ plain_query table.tree (tests_of (name_of p) table q) (terms_of (name_of p) table q) → Shown q.text params old new rows
@@ -96,13 +99,13 @@ one_row keeps row q p shows xs stored rows are once same shown found =
 -- ---- the next number
 
 module _ (old new : State) (world : World) (s : Refines old.now world) where
-  next_is : (rows : List Row) → Answers old.now (alone (query_of (codes "project") (project_at s.trees.project) next_asked)) [] rows → rows ≡ next_row world ∷ []
+  next_is : (rows : List Row) → Answers old.now (alone (query_of (codes "project") (project_at (s.trees the_table.Project)) next_asked)) [] rows → rows ≡ next_row world ∷ []
   next_is rows h =
-      let all = answers_are s.trees.project [] next_shows [] old.now rows s.tables.project.1.low h in
+      let all = answers_are (s.trees the_table.Project) [] next_shows [] old.now rows (s.tables.each the_table.Project tt).1.low h in
       one_permutation _ rows (subst (λ rs. IsPermutation (showing next_shows [] (meeting [] [] rs)) rows) s.rows.project all)
 
   pub next_found : (rows : List Row) → Shown next_asked.text [] old new rows → rows ≡ option_to_list (Some (next_row world))
-  next_found rows h = next_is rows (asked_answers Project next_asked next_fits old new world s tt [] rows h)
+  next_found rows h = next_is rows (asked_answers the_table.Project next_asked next_fits old new world s tt [] rows h)
 
 -- ---- by name
 
@@ -113,18 +116,18 @@ any_numbered name n (x ∷ xs) = ap (λ b. bytes_eq x.name name || b) (any_numbe
 module _ (old new : State) (world : World) (s : Refines old.now world) (name : List ℕ) (rows : List Row) where
   pub workunit_found : Shown workunit_asked.text (Text name ∷ []) old new rows → not (length rows == 0) ≡ has_name name world
   workunit_found h =
-      any_answer _ _ (λ (w : Workunit). bytes_eq w.name name) stored_workunit world.workunits _ rows s.rows.workunits.same (λ w. one_test _ ∙ text_equal w.name name) (asked_rows Workunits workunit_asked workunit_fits old new world s tt (Text name ∷ []) rows refl h)
+      any_answer _ _ (λ (w : Workunit). bytes_eq w.name name) stored_workunit world.workunits _ rows s.rows.workunits.same (λ w. one_test _ ∙ text_equal w.name name) (asked_rows the_table.Workunit workunit_asked workunit_fits old new world s tt (Text name ∷ []) rows refl h)
 
   pub archived_found : Shown archived_asked.text (Text name ∷ []) old new rows → not (length rows == 0) ≡ was_archived name world
   archived_found h =
-      any_answer _ _ (λ (p : ℕ × Archived). bytes_eq p.1.name name) stored_archived (enumerate_from 1 world.archived) _ rows s.rows.archived.same (λ p. one_test _ ∙ text_equal p.1.name name) (asked_rows Archive archived_asked archived_fits old new world s tt (Text name ∷ []) rows refl h)
+      any_answer _ _ (λ (p : ℕ × Archived). bytes_eq p.1.name name) stored_archived (enumerate_from 1 world.archived) _ rows s.rows.archived.same (λ p. one_test _ ∙ text_equal p.1.name name) (asked_rows the_table.Archived archived_asked archived_fits old new world s tt (Text name ∷ []) rows refl h)
       ∙ any_numbered name 1 world.archived
 
   -- the row of the one workunit of the name
   pub named_found : Shown named_asked.text (Text name ∷ []) old new rows → rows ≡ option_to_list (row_named name world)
   named_found h =
       one_row stored_workunit workunit_row (λ (w : Workunit). bytes_eq w.name name) (λ r. list_all (holds ((Text name ∷ []) ∷ r ∷ [])) workunit_tests) (λ r. eval_all all_shows ((Text name ∷ []) ∷ r ∷ [])) world.workunits _ rows s.rows.workunits.same (once_named old.now world s name)
-      (λ w. one_test _ ∙ text_equal w.name name) (λ w. refl) (asked_rows Workunits named_asked named_fits old new world s tt (Text name ∷ []) rows refl h)
+      (λ w. one_test _ ∙ text_equal w.name name) (λ w. refl) (asked_rows the_table.Workunit named_asked named_fits old new world s tt (Text name ∷ []) rows refl h)
 
 -- ---- by number
 
@@ -134,7 +137,7 @@ module _ (old new : State) (world : World) (s : Refines old.now world) (n : ℕ)
   numbered_found h =
       one_row stored_workunit workunit_row (λ (w : Workunit). w.number == n) (λ r. list_all (holds ((number n ∷ []) ∷ r ∷ [])) numbered_tests) (λ r. eval_all all_shows ((number n ∷ []) ∷ r ∷ [])) world.workunits _ rows s.rows.workunits.same
       (once_number old.now world s n) (λ w. one_test _ ∙ number_equal w.number n) (λ w. refl)
-      (asked_rows Workunits numbered_asked numbered_fits old new world s tt (number n ∷ []) rows refl h)
+      (asked_rows the_table.Workunit numbered_asked numbered_fits old new world s tt (number n ∷ []) rows refl h)
 
 -- ---- an import
 
@@ -168,6 +171,6 @@ module _ (old new : State) (world : World) (s : Refines old.now world) (kind : I
   pub import_found : Shown import_asked.text (number (import_kind_code kind) ∷ Text name ∷ []) old new rows → rows ≡ kept_of kind name world
   import_found h =
       let code = import_kind_code kind in
-      let all = asked_rows Imports import_asked import_fits old new world s tt (number code ∷ Text name ∷ []) rows refl h in
+      let all = asked_rows the_table.Import import_asked import_fits old new world s tt (number code ∷ Text name ∷ []) rows refl h in
       only_answer kept_cells (filter (is_import kind name) world.imports) rows (at_most_one kind name world.imports s.rows.imported_once)
-      (cells_shown import_cells kept_cells (is_import kind name) (is_kept code name) kept_in _ _ (tests_cells code name) (shows_cells code name) (tested_import kind name) (λ a. refl) world.imports (old.now.trees s.trees.import) s.rows.imports rows all)
+      (cells_shown import_cells kept_cells (is_import kind name) (is_kept code name) kept_in _ _ (tests_cells code name) (shows_cells code name) (tested_import kind name) (λ a. refl) world.imports (old.now.trees (s.trees the_table.Import)) s.rows.imports rows all)

@@ -28,6 +28,7 @@ use Rattle.wu_core.proofs.HostLemmas.{Ascends, order, pairs_ascend}
 use Rattle.wu_schema.specs.Tables.{IsClassedVersion}
 use Rattle.wu_schema.proofs.Parts.{classed_or_not}
 use Rattle.wu_store.proofs.PlacedLemmas.{Rises, world_rises}
+use Rattle.wu_schema.specs.declared.table.ProjectTable.TheVariants as the_table
 
 -- ---- what was stored is read back
 
@@ -311,8 +312,8 @@ module _ (db : Database) (a b : World) (s : Refines db a) (t : Refines db b) (ve
         let also_known = subst IsClassedVersion version known in
         let one = s.rows.classes known in
         let two = t.rows.classes also_known in (
-          same_hosts a.classes b.classes s.rows.classes_in_order t.rows.classes_in_order (one_cells (one_table db _ _ _ (s.tables.host_class known) (t.tables.host_class also_known)) one.hosts two.hosts),
-          sym one.workunits.same ∙ one_table db _ _ _ (s.tables.workunit_class known) (t.tables.workunit_class also_known) ∙ two.workunits.same,
+          same_hosts a.classes b.classes s.rows.classes_in_order t.rows.classes_in_order (one_cells (one_table db _ _ _ (s.tables.each the_table.HostClass known) (t.tables.each the_table.HostClass also_known)) one.hosts two.hosts),
+          sym one.workunits.same ∙ one_table db _ _ _ (s.tables.each the_table.WorkunitClass known) (t.tables.each the_table.WorkunitClass also_known) ∙ two.workunits.same,
         )
     | inr older ↦
         let one = s.rows.classless older in
@@ -322,14 +323,14 @@ module _ (db : Database) (a b : World) (s : Refines db a) (t : Refines db b) (ve
 
 pub one_world : (db : Database) (a b : World) → Refines db a → Refines db b → SameWorld a b
 one_world db a b s t =
-    let project : stored_project a ∷ [] ≡ stored_project b ∷ [] = sym s.rows.project ∙ one_table db _ _ _ s.tables.project t.tables.project ∙ t.rows.project in
+    let project : stored_project a ∷ [] ≡ stored_project b ∷ [] = sym s.rows.project ∙ one_table db _ _ _ (s.tables.each the_table.Project tt) (t.tables.each the_table.Project tt) ∙ t.rows.project in
     let version : a.version ≡ b.version = cc in
-    let works = sym s.rows.workunits.same ∙ one_table db _ _ _ s.tables.workunit t.tables.workunit ∙ t.rows.workunits.same in
-    let grants = sym s.rows.grants.same ∙ one_table db _ _ _ s.tables.grant t.tables.grant ∙ t.rows.grants.same in
-    let archived = sym s.rows.archived.same ∙ one_table db _ _ _ s.tables.archived t.tables.archived ∙ t.rows.archived.same in
-    let instances = one_cells (one_table db _ _ _ s.tables.result t.tables.result) s.rows.instances t.rows.instances in
+    let works = sym s.rows.workunits.same ∙ one_table db _ _ _ (s.tables.each the_table.Workunit tt) (t.tables.each the_table.Workunit tt) ∙ t.rows.workunits.same in
+    let grants = sym s.rows.grants.same ∙ one_table db _ _ _ (s.tables.each the_table.Grant tt) (t.tables.each the_table.Grant tt) ∙ t.rows.grants.same in
+    let archived = sym s.rows.archived.same ∙ one_table db _ _ _ (s.tables.each the_table.Archived tt) (t.tables.each the_table.Archived tt) ∙ t.rows.archived.same in
+    let instances = one_cells (one_table db _ _ _ (s.tables.each the_table.Result tt) (t.tables.each the_table.Result tt)) s.rows.instances t.rows.instances in
     let classes = one_classes db a b s t version works in
-    let imports = IsPermutation-map read_import _ _ (one_cells (one_table db _ _ _ s.tables.import t.tables.import) s.rows.imports t.rows.imports) in
+    let imports = IsPermutation-map read_import _ _ (one_cells (one_table db _ _ _ (s.tables.each the_table.Import tt) (t.tables.each the_table.Import tt)) s.rows.imports t.rows.imports) in
     record {
       workunits = same_works a.workunits b.workunits works classes.1 (brought a.workunits b.workunits (world_rises db a s) (world_rises db b t) instances);
       grants = sym (restored_from stored_grant read_grant (λ p. refl) 1 a.grants) ∙ ap (map read_grant) grants ∙ restored_from stored_grant read_grant (λ p. refl) 1 b.grants;

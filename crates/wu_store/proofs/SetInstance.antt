@@ -8,7 +8,9 @@ use Rattle.wu_schema.specs.Tables.{queue_at}
 use Rattle.wu_schema.proofs.AnswerLemmas.{meeting, showing}
 use Rattle.wu_schema.proofs.ExprLemmas.{same}
 use Rattle.wu_schema.proofs.InsertEffect.{cast_int}
-use Rattle.wu_schema.proofs.Parts.{Holds, Instances, Part, WorkClasses, Workunits, apart, calm_from, frame_one, is_part, keeps_calm, parts_there}
+use Rattle.wu_schema.proofs.Parts.{Holds, apart, calm_from, frame_one, is_part, keeps_calm, parts_there}
+use Rattle.wu_schema.specs.declared.table.ProjectTable.{ProjectTable}
+use Rattle.wu_schema.specs.declared.table.ProjectTable.TheVariants as the_table
 use Rattle.wu_schema.proofs.QueueLemmas.{queue_apart, queue_calm, queue_listed, queue_still}
 use Rattle.wu_schema.proofs.QuietLemmas.{same_some}
 use Rattle.wu_schema.proofs.RowLemmas.{filter_same, int_value, one_test}
@@ -161,7 +163,7 @@ module _ (w n : ℕ) where
 
 module _ (old new : State) (world : World) (s : Refines old.now world) (w n : ℕ) (i : Instance) (u : Workunit) (is : numbered w world ≡ Some u) (low : n < length u.instances) (count : ℕ) (ran : Executes instance_set.text (instance_cells w n i) old new (Ok count)) where
   abbrev tree : ℕ
-  tree = s.trees.result
+  tree = (s.trees the_table.Result)
 
   abbrev rows : List Row
   rows = old.now.trees tree
@@ -170,7 +172,7 @@ module _ (old new : State) (world : World) (s : Refines old.now world) (w n : �
   cells = flat_map instances_of world.workunits
 
   instance_sets : Sets old.now new.now (result_at tree) by_key instance_set.made (instance_cells w n i)
-  instance_sets = sets_by old new (result_at tree) s.tables.result.0 s.tables.result.1 (is_there old.now.schema _ _ s.tables.result) 2 instance_set (instance_set_fits tree) (instance_cells w n i) count ran
+  instance_sets = sets_by old new (result_at tree) (s.tables.each the_table.Result tt).0 (s.tables.each the_table.Result tt).1 (is_there old.now.schema _ _ (s.tables.each the_table.Result tt)) 2 instance_set (instance_set_fits tree) (instance_cells w n i) count ran
 
   abbrev mine : Row → Bool
   mine r = is_mine w n (drop 1 r)
@@ -220,7 +222,7 @@ module _ (old new : State) (world : World) (s : Refines old.now world) (w n : �
       one_permutation _ instance_sets.found shown ∙ (λ k. (id_is.1 k ∷ id_is.1 k ∷ first k ∷ second k ∷ instance_row i) ∷ [])
 
   rows_are : new.now.trees tree ≡ replaced id new_row rows
-  rows_are = instance_sets.rows (calm_from world.version old.now s.trees (parts_there old.now world s) tree (apart world.version old.now s.trees (parts_there old.now world s) Instances Workunits tt tt refl) Instances tt)
+  rows_are = instance_sets.rows (calm_from world.version old.now s.trees (parts_there old.now world s) tree (apart world.version old.now s.trees (parts_there old.now world s) the_table.Result the_table.Workunit tt tt refl) the_table.Result tt)
       ∙ ap (resets (result_at tree) rows) found_is ∙ ap (λ r. put_row r (without_rowid id rows)) (instance_kept tree id w n i) ∙ in_place id new_row x id_is.1 refl rows s.rows.instances.shaped.0 has_x.0
 
   -- the row is that of the key, and no other
@@ -231,15 +233,15 @@ module _ (old new : State) (world : World) (s : Refines old.now world) (w n : �
   holds_all = subst (HoldsAll (replaced id new_row rows)) (all_set w n i world.workunits) (holds_set id new_row rows s.rows.instances.shaped refl (is_mine w n) x has_x.0 id_is.1 has_x.1 only cells s.rows.instances)
 
   pub sets_instance : Refines new.now (with_set w n i world)
-  sets_instance = frame_one old.now new.now world (with_set w n i world) s Instances tt instance_sets.schema refl
-      (keeps_calm world.version old.now s.trees (parts_there old.now world s) new.now Instances tt refl instance_sets.others) carry (holds_still rows_are holds_all) instance_sets.sound
+  sets_instance = frame_one old.now new.now world (with_set w n i world) s the_table.Result tt instance_sets.schema refl
+      (keeps_calm world.version old.now s.trees (parts_there old.now world s) new.now the_table.Result tt refl instance_sets.others) carry (holds_still rows_are holds_all) instance_sets.sound
     where
-      carry : (p : Part) → is_part Instances p ≡ false → (rs : List Row) → Holds p rs world → Holds p rs (with_set w n i world)
-      carry Instances off rs h = absurd (cc)
-      carry Workunits off rs h = subst (ListsAll rs) (sym (map_stays (λ (v : Workunit). v.number == w) (λ v. record v { instances = slice_set v.instances n i }) stored_workunit (λ v on. refl) world.workunits)) h
-      carry WorkClasses off rs h = subst (ListsAll rs) (sym (map_stays (λ (v : Workunit). v.number == w) (λ v. record v { instances = slice_set v.instances n i }) stored_class (λ v on. refl) world.workunits)) h
+      carry : (p : ProjectTable) → is_part the_table.Result p ≡ false → (rs : List Row) → Holds p rs world → Holds p rs (with_set w n i world)
+      carry the_table.Result off rs h = absurd (cc)
+      carry the_table.Workunit off rs h = subst (ListsAll rs) (sym (map_stays (λ (v : Workunit). v.number == w) (λ v. record v { instances = slice_set v.instances n i }) stored_workunit (λ v on. refl) world.workunits)) h
+      carry the_table.WorkunitClass off rs h = subst (ListsAll rs) (sym (map_stays (λ (v : Workunit). v.number == w) (λ v. record v { instances = slice_set v.instances n i }) stored_class (λ v on. refl) world.workunits)) h
       carry _ off rs h = h
 
   pub set_leaves : (marked : List (ℕ × Marks)) → HasQueue old.now marked → HasQueue new.now marked
   set_leaves marked q = queue_still old.now new.now marked q instance_sets.schema
-      (instance_sets.others (queue_at q.tree) (queue_listed old.now world s marked q) (λ same. queue_apart old.now world s marked q Instances tt (sym same)) (queue_calm old.now world s marked q Instances tt refl))
+      (instance_sets.others (queue_at q.tree) (queue_listed old.now world s marked q) (λ same. queue_apart old.now world s marked q the_table.Result tt (sym same)) (queue_calm old.now world s marked q the_table.Result tt refl))

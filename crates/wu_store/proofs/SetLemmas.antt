@@ -7,7 +7,9 @@ use Rattle.wu_schema.specs.Stored.{marks_cells, stored_marks, workunit_cells}
 use Rattle.wu_schema.specs.Tables.{queue_at}
 use Rattle.wu_schema.proofs.InsertEffect.{cast_null}
 use Rattle.wu_schema.proofs.CalmLemmas.{calm_bare}
-use Rattle.wu_schema.proofs.Parts.{Holds, Instances, Part, WorkClasses, Workunits, frame_one, is_part, keeps_set, parts_there}
+use Rattle.wu_schema.proofs.Parts.{Holds, frame_one, is_part, keeps_set, parts_there}
+use Rattle.wu_schema.specs.declared.table.ProjectTable.{ProjectTable}
+use Rattle.wu_schema.specs.declared.table.ProjectTable.TheVariants as the_table
 use Rattle.wu_schema.proofs.QueueLemmas.{queue_apart, queue_has, queue_listed, queue_self, queue_steady, queue_still, world_kept}
 use Rattle.wu_schema.proofs.SetTexts.{SetBy, SetFits}
 use Rattle.wu_schema.proofs.StandsLemmas.{is_there, lists_still}
@@ -98,19 +100,19 @@ stored_set w (v ∷ vs) = ap (λ r. r ∷ map stored_workunit (in_its_place (λ 
 
 module _ (old new : State) (world : World) (s : Refines old.now world) (w : Workunit) (there : HasNumber w.number world.workunits) (count : ℕ) (ran : Executes workunit_set.text (workunit_row w) old new (Ok count)) where
   abbrev tree : ℕ
-  tree = s.trees.workunit
+  tree = (s.trees the_table.Workunit)
 
   abbrev rows : List Row
   rows = old.now.trees tree
 
   workunit_sets : Sets old.now new.now (workunit_at tree) by_number workunit_set.made (workunit_row w)
-  workunit_sets = sets_by old new (workunit_at tree) s.tables.workunit.0 s.tables.workunit.1 (is_there old.now.schema _ _ s.tables.workunit) 1 workunit_set (workunit_set_fits tree) (workunit_row w) count ran
+  workunit_sets = sets_by old new (workunit_at tree) (s.tables.each the_table.Workunit tt).0 (s.tables.each the_table.Workunit tt).1 (is_there old.now.schema _ _ (s.tables.each the_table.Workunit tt)) 1 workunit_set (workunit_set_fits tree) (workunit_row w) count ran
 
   shows_row : (x : Row) → rowid x ≡ number w.number → eval_all workunit_set.made (workunit_row w ∷ x ∷ []) ≡ number w.number ∷ stored_workunit w
   shows_row x key = ap (λ v. v ∷ v ∷ Null ∷ workunit_cells w) key
 
   rows_are : new.now.trees tree ≡ replaced (pos w.number) (stored_workunit w) rows
-  rows_are = workunit_sets.rows (calm_bare old.now.schema (workunit_at tree) tree s.tables.workunit.2 refl)
+  rows_are = workunit_sets.rows (calm_bare old.now.schema (workunit_at tree) tree (s.tables.each the_table.Workunit tt).2 refl)
       ∙ resets_one (pos w.number) (stored_workunit w) rows s.rows.workunits.shaped refl (workunit_at tree) workunit_set.made (workunit_cells w) (stored_workunit w) (workunit_kept tree w) shows_row workunit_sets.found workunit_sets.shown
 
   -- it is there, so a row is found
@@ -121,18 +123,18 @@ module _ (old new : State) (world : World) (s : Refines old.now world) (w : Work
   some_found = ap (λ rs. length rs == 0) (found_is (pos w.number) (stored_workunit w) rows s.rows.workunits.shaped refl (workunit_at tree) workunit_set.made (workunit_cells w) (stored_workunit w) (workunit_kept tree w) shows_row workunit_sets.found workunit_sets.shown one_row.0 one_row.1)
 
   pub sets_row : Refines new.now (with_row w world)
-  sets_row = frame_one old.now new.now world (with_row w world) s Workunits tt workunit_sets.schema refl
+  sets_row = frame_one old.now new.now world (with_row w world) s the_table.Workunit tt workunit_sets.schema refl
       (keeps_set world.version old.now s.trees (parts_there old.now world s) new.now workunit_sets.others (λ u listed other steady. workunit_sets.steady u listed other steady some_found))
       carry
       (lists_still rows_are (subst (ListsAll (replaced (pos w.number) (stored_workunit w) rows)) (stored_set w world.workunits) (lists_in_its_place (λ (v : Workunit). v.number) (λ v. Null ∷ workunit_cells v) w world.workunits rows s.rows.workunits)))
       workunit_sets.sound
     where
-      carry : (p : Part) → is_part Workunits p ≡ false → (rs : List Row) → Holds p rs world → Holds p rs (with_row w world)
-      carry Workunits off rs h = absurd (cc)
-      carry Instances off rs h = subst (HoldsAll rs) (sym (flat_map_stays (λ (v : Workunit). v.number == w.number) (λ v. keeping v w) instances_of (λ v on. ap (λ n. map (λ (p : ℕ × Instance). instance_cells n p.0 p.1) (enumerate_from 0 v.instances)) (sym (eqb-true v.number w.number on))) world.workunits)) h
-      carry WorkClasses off rs h = subst (ListsAll rs) (sym (map_stays (λ (v : Workunit). v.number == w.number) (λ v. keeping v w) stored_class (λ v on. ap (λ n. class_row (n, v.class)) (sym (eqb-true v.number w.number on))) world.workunits)) h
+      carry : (p : ProjectTable) → is_part the_table.Workunit p ≡ false → (rs : List Row) → Holds p rs world → Holds p rs (with_row w world)
+      carry the_table.Workunit off rs h = absurd (cc)
+      carry the_table.Result off rs h = subst (HoldsAll rs) (sym (flat_map_stays (λ (v : Workunit). v.number == w.number) (λ v. keeping v w) instances_of (λ v on. ap (λ n. map (λ (p : ℕ × Instance). instance_cells n p.0 p.1) (enumerate_from 0 v.instances)) (sym (eqb-true v.number w.number on))) world.workunits)) h
+      carry the_table.WorkunitClass off rs h = subst (ListsAll rs) (sym (map_stays (λ (v : Workunit). v.number == w.number) (λ v. keeping v w) stored_class (λ v on. ap (λ n. class_row (n, v.class)) (sym (eqb-true v.number w.number on))) world.workunits)) h
       carry _ off rs h = h
 
   pub row_leaves : (marked : List (ℕ × Marks)) → HasQueue old.now marked → HasQueue new.now marked
   row_leaves marked q = queue_still old.now new.now marked q workunit_sets.schema
-      (workunit_sets.steady (queue_at q.tree) (queue_listed old.now world s marked q) (λ same. queue_apart old.now world s marked q Workunits tt (sym same)) (queue_steady old.now world s marked q) some_found)
+      (workunit_sets.steady (queue_at q.tree) (queue_listed old.now world s marked q) (λ same. queue_apart old.now world s marked q the_table.Workunit tt (sym same)) (queue_steady old.now world s marked q) some_found)

@@ -14,6 +14,7 @@ use Rattle.wu_store.proofs.DeleteTexts.{delete_text}
 use Rattle.wu_store.proofs.HostClassEffect as host_class
 use Rattle.wu_store.proofs.HostClassEffect.{cut_text}
 use Rattle.wu_store.proofs.SetEffect.{sets_by}
+use Rattle.wu_schema.specs.declared.table.ProjectTable.TheVariants as the_table
 
 -- ---- rows that are set
 
@@ -60,7 +61,7 @@ pub there_in : (db : Database) (world : World) → KnowsClasses world → Stands
 there_in db world known stands =
     let s = stands.refines in
     let q = stands.queue (omega (arith, known)) in
-    ((s.trees.workunit, s.tables.workunit), ((s.trees.result, s.tables.result), ((s.trees.workunit_class, s.tables.workunit_class known), ((q.tree, q.table), tt))))
+    (((s.trees the_table.Workunit), (s.tables.each the_table.Workunit tt)), (((s.trees the_table.Result), (s.tables.each the_table.Result tt)), (((s.trees the_table.WorkunitClass), s.tables.each the_table.WorkunitClass known), ((q.tree, q.table), tt))))
 
 pub project_there : (db : Database) (world : World) → Refines db world → AreThere db.schema (project_table ∷ [])
-project_there db world s = ((s.trees.project, s.tables.project), tt)
+project_there db world s = (((s.trees the_table.Project), (s.tables.each the_table.Project tt)), tt)

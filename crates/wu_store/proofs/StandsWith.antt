@@ -11,12 +11,15 @@ use Rattle.wu_store.proofs.OnceLemmas.{has_permuted, kind_in, key_once}
 use Rattle.wu_schema.proofs.PutLemmas.{put_beside}
 use Rattle.wu_schema.proofs.StandsLemmas.{ChildrenAre, is_there, bytes_back, none_has}
 use Rattle.wu_store.proofs.PlacedLemmas.{holds_put, keeps_put}
-use Rattle.wu_schema.proofs.Parts.{Part, Project, Workunits, Instances, Imports, WorkClasses, tree_in, Holds, is_part, IsIn, child_column, child_shaped, falls_with_work, parts_there, parts_hold, keeps_calm, keeps_bare, child_left, frame_in, frame_one}
+use Rattle.wu_schema.proofs.Parts.{Holds, is_part, child_column, child_shaped, falls_with_work, parts_there, parts_hold, keeps_calm, keeps_bare, child_left, frame_in, frame_one}
+use Rattle.wu_schema.specs.declared.table.ProjectTable.{ProjectTable}
+use Rattle.wu_schema.specs.declared.table.ProjectTable.TheVariants as the_table
+use Rattle.wu_schema.specs.ProjectTables.{IsTableOf}
 
 module _ (old new : Database) (world : World) (s : Refines old world) where
-  module _ (import : Import) (put : PutsOne old new s.trees.import (Int (next_rowid (old.trees s.trees.import)) ∷ import_cells import)) (a : Import) where
+  module _ (import : Import) (put : PutsOne old new (s.trees the_table.Import) (Int (next_rowid (old.trees (s.trees the_table.Import))) ∷ import_cells import)) (a : Import) where
     abbrev tree : ℕ
-    tree = s.trees.import
+    tree = (s.trees the_table.Import)
 
     abbrev new_row : Row
     new_row = Int (next_rowid (old.trees tree)) ∷ import_cells import
@@ -29,7 +32,7 @@ module _ (old new : Database) (world : World) (s : Refines old world) where
     put_there = subst (λ rs. Has rs new_row) (sym put.rows) (has_put new_row (old.trees tree))
 
     table_there : Has new.schema.tables (import_at tree)
-    table_there = subst (λ (x : Schema). Has x.tables (import_at tree)) (sym put.schema) (is_there old.schema _ _ s.tables.import)
+    table_there = subst (λ (x : Schema). Has x.tables (import_at tree)) (sym put.schema) (is_there old.schema _ _ (s.tables.each the_table.Import tt))
 
     -- a row of its kind and name would break the table's key
     no_row : import_kind_code import.kind ≡ import_kind_code a.kind → bytes_eq import.name a.name ≡ true → (r : Row) → Has (old.trees tree) r → import_cells a ≡ drop 1 r → ⊥
@@ -50,34 +53,34 @@ module _ (old new : Database) (world : World) (s : Refines old world) where
         no_row (eqb-true _ _ parts.0) parts.1 it.0 it.1 it.2)
 
   -- an import of which no row has the rowid
-  pub stands_with_import : (import : Import) → MayBeKept import → PutsOne old new s.trees.import (Int (next_rowid (old.trees s.trees.import)) ∷ import_cells import) → Refines new (with_import import world)
+  pub stands_with_import : (import : Import) → MayBeKept import → PutsOne old new (s.trees the_table.Import) (Int (next_rowid (old.trees (s.trees the_table.Import))) ∷ import_cells import) → Refines new (with_import import world)
   stands_with_import import kept put =
-      let row : Row = Int (next_rowid (old.trees s.trees.import)) ∷ import_cells import in
-      let before = old.trees s.trees.import in
-      frame_one old new world (with_import import world) s Imports tt put.schema refl (keeps_put old new world s Imports row tt put) carry (
+      let row : Row = Int (next_rowid (old.trees (s.trees the_table.Import))) ∷ import_cells import in
+      let before = old.trees (s.trees the_table.Import) in
+      frame_one old new world (with_import import world) s the_table.Import tt put.schema refl (keeps_put old new world s the_table.Import row tt put) carry (
         subst (λ rs. HoldsAll rs (map import_cells (world.imports ++ import ∷ []))) (sym put.rows)
             (subst (HoldsAll (put_row row before)) (sym (map-append import_cells world.imports (import ∷ []))) (holds_put (import_cells import) (map import_cells world.imports) before put.fresh s.rows.imports)),
         ascending_push (λ (a b : Import). is_import a.kind a.name b ≡ false) world.imports import s.rows.imported_once (new_once import put),
         recursion_from_All MayBeKept (world.imports ++ import ∷ []) (All-push MayBeKept world.imports import (All-from_recursion MayBeKept world.imports s.rows.imports_kept) kept),
       ) put.sound
     where
-      carry : (q : Part) → is_part Imports q ≡ false → (rows : List Row) → Holds q rows world → Holds q rows (with_import import world)
-      carry Imports off rows h = absurd (cc)
+      carry : (q : ProjectTable) → is_part the_table.Import q ≡ false → (rows : List Row) → Holds q rows world → Holds q rows (with_import import world)
+      carry the_table.Import off rows h = absurd (cc)
       carry _ off rows h = h
 
   -- the row of the project has another number, and our other tables stay
-  pub stands_with_next : (n : ℕ) → new.schema ≡ old.schema → new.trees s.trees.project ≡ stored_project (with_next n world) ∷ []
-      → ((t : Table) → Has old.schema.tables t → t.tree ≢ s.trees.project → IsCalm old.schema Enforced t s.trees.project → new.trees t.tree ≡ old.trees t.tree) → IsDatabase new → Refines new (with_next n world)
-  stands_with_next n same is others sound = frame_one old new world (with_next n world) s Project tt same refl (keeps_calm world.version old s.trees (parts_there old world s) new Project tt refl others) carry is sound
+  pub stands_with_next : (n : ℕ) → new.schema ≡ old.schema → new.trees (s.trees the_table.Project) ≡ stored_project (with_next n world) ∷ []
+      → ((t : Table) → Has old.schema.tables t → t.tree ≢ (s.trees the_table.Project) → IsCalm old.schema Enforced t (s.trees the_table.Project) → new.trees t.tree ≡ old.trees t.tree) → IsDatabase new → Refines new (with_next n world)
+  stands_with_next n same is others sound = frame_one old new world (with_next n world) s the_table.Project tt same refl (keeps_calm world.version old s.trees (parts_there old world s) new the_table.Project tt refl others) carry is sound
     where
-      carry : (q : Part) → is_part Project q ≡ false → (rows : List Row) → Holds q rows world → Holds q rows (with_next n world)
-      carry Project off rows h = absurd (cc)
+      carry : (q : ProjectTable) → is_part the_table.Project q ≡ false → (rows : List Row) → Holds q rows world → Holds q rows (with_next n world)
+      carry the_table.Project off rows h = absurd (cc)
       carry _ off rows h = h
 
   -- the row of a workunit is gone, something of its children is left, and our other tables stay
-  pub stands_without_workunit : (n : ℕ) (left : ℕ → List Row → List Row) → new.schema ≡ old.schema → ListsAll (new.trees s.trees.workunit) (map stored_workunit (without_workunit n world).workunits)
-      → ChildrenAre old new left → ((q : Part) (c : ℕ) (rows : List Row) → child_column q ≡ Some c → Holds q rows world → Holds q (left c rows) (without_workunit n world))
-      → ((u : Table) → Has old.schema.tables u → OwnsTree old.schema u → u.tree ≢ s.trees.workunit → u.references ≡ [] → new.trees u.tree ≡ old.trees u.tree) → IsDatabase new → Refines new (without_workunit n world)
+  pub stands_without_workunit : (n : ℕ) (left : ℕ → List Row → List Row) → new.schema ≡ old.schema → ListsAll (new.trees (s.trees the_table.Workunit)) (map stored_workunit (without_workunit n world).workunits)
+      → ChildrenAre old new left → ((q : ProjectTable) (c : ℕ) (rows : List Row) → child_column q ≡ Some c → Holds q rows world → Holds q (left c rows) (without_workunit n world))
+      → ((u : Table) → Has old.schema.tables u → OwnsTree old.schema u → u.tree ≢ (s.trees the_table.Workunit) → u.references ≡ [] → new.trees u.tree ≡ old.trees u.tree) → IsDatabase new → Refines new (without_workunit n world)
   stands_without_workunit n left same workunits children hold bare sound =
       frame_in old new world (without_workunit n world) s falls_with_work same refl (keeps_bare world.version old s.trees (parts_there old world s) new bare) carry fits (λ off none. record { hosts = none.hosts; workunits = kept_of world.workunits none.workunits }) sound
     where
@@ -85,19 +88,19 @@ module _ (old new : Database) (world : World) (s : Refines old world) where
       kept_of [] none = tt
       kept_of (w ∷ ws) none = elim (cases_Bool (w.number == n)) [ inl on ↦ rw on (kept_of ws none.1) | inr off ↦ rw off (none.0, kept_of ws none.1) ]
 
-      carry : (q : Part) → falls_with_work q ≡ false → (rows : List Row) → Holds q rows world → Holds q rows (without_workunit n world)
-      carry Workunits off rows h = absurd (cc)
-      carry Instances off rows h = absurd (cc)
-      carry WorkClasses off rows h = absurd (cc)
+      carry : (q : ProjectTable) → falls_with_work q ≡ false → (rows : List Row) → Holds q rows world → Holds q rows (without_workunit n world)
+      carry the_table.Workunit off rows h = absurd (cc)
+      carry the_table.Result off rows h = absurd (cc)
+      carry the_table.WorkunitClass off rows h = absurd (cc)
       carry _ off rows h = h
 
-      child : (q : Part) (c : ℕ) → IsIn q world.version → child_column q ≡ Some c → Holds q (new.trees (tree_in s.trees q)) (without_workunit n world)
+      child : (q : ProjectTable) (c : ℕ) → IsTableOf q world.version → child_column q ≡ Some c → Holds q (new.trees (s.trees q)) (without_workunit n world)
       child q c in_q is =
           let was = parts_hold old world s q in_q in
           subst (λ rows. Holds q rows (without_workunit n world)) (sym (child_left world.version old s.trees (parts_there old world s) new left children q c in_q is (child_shaped q c _ world is was))) (hold q c _ is was)
 
-      fits : (q : Part) → IsIn q world.version → falls_with_work q ≡ true → Holds q (new.trees (tree_in s.trees q)) (without_workunit n world)
-      fits Workunits in_q on = workunits
-      fits Instances in_q on = child Instances 1 in_q refl
-      fits WorkClasses in_q on = child WorkClasses 0 in_q refl
+      fits : (q : ProjectTable) → IsTableOf q world.version → falls_with_work q ≡ true → Holds q (new.trees (s.trees q)) (without_workunit n world)
+      fits the_table.Workunit in_q on = workunits
+      fits the_table.Result in_q on = child the_table.Result 1 in_q refl
+      fits the_table.WorkunitClass in_q on = child the_table.WorkunitClass 0 in_q refl
       fits _ in_q on = absurd (cc)

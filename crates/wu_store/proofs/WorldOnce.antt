@@ -4,6 +4,7 @@ use Rattle.wu_schema.proofs.StandsLemmas.{is_there}
 use Rattle.wu_store.proofs.EqualLemmas.{text_equal, number_tied}
 use Rattle.wu_store.proofs.OnceLemmas.{key_once, one_passes}
 use Rattle.wu_store.proofs.PlacedLemmas.{table_rises, world_rises}
+use Rattle.wu_schema.specs.declared.table.ProjectTable.TheVariants as the_table
 
 pub bytes_same : (a b c : List ℕ) → bytes_eq a b ≡ true → bytes_eq c b ≡ true → bytes_eq a c ≡ true
 bytes_same a b c p q = (bytes_eq-Decides a c).1 ((bytes_eq-Decides a b).0 p ∙ sym ((bytes_eq-Decides c b).0 q))
@@ -26,7 +27,7 @@ module _ (db : Database) (world : World) (s : Refines db world) where
   unfolding first_key
   once_named name = one_passes _ (λ (a b : Workunit). a.number < b.number) world.workunits (λ a b has_a has_b low p q.
       let stored = λ (w : Workunit) (has : Has world.workunits w). subst (λ rs. Has rs (stored_workunit w)) (sym s.rows.workunits.same) (mapped_has stored_workunit world.workunits w has) in
-      key_once db (workunit_at s.trees.workunit) 0 (2 ∷ []) refl s.sound (is_there db.schema _ _ s.tables.workunit) (stored_workunit b) (stored_workunit a) (stored b has_b) (stored a has_a)
+      key_once db (workunit_at (s.trees the_table.Workunit)) 0 (2 ∷ []) refl s.sound (is_there db.schema _ _ (s.tables.each the_table.Workunit tt)) (stored_workunit b) (stored_workunit a) (stored b has_b) (stored a has_a)
       (number_tied a.number b.number ∙ ne_eqb a.number b.number (λ same. omega (arith, same, low))) (pos a.number) (pos b.number) refl refl (λ at. and_from _ _ (text_equal a.name b.name ∙ bytes_same a.name name b.name p q) refl))
       (world_rises db world s)
 

@@ -15,7 +15,7 @@ use Rattle.wu_core.specs.declared.workunit.Workunit.{Workunit}
 use Rattle.wu_core.specs.Hosts.{hosts_of}
 use Rattle.wu_core.specs.World.{World, Import, MayBeKept}
 use Rattle.wu_schema.specs.Stored.{stored_grant}
-use Rattle.wu_schema.specs.Tables.{ProjectTrees, HasTables}
+use Rattle.wu_schema.specs.ProjectTables.{HasTables, ProjectTrees}
 use Rattle.wu_schema.specs.Refines.{Refines, HoldsAll, ListsAll, host_of}
 use Rattle.wu_schema.specs.Others.{SparesOthers}
 use Rattle.wu_schema.specs.Queue.{HasQueue}
@@ -26,6 +26,7 @@ use Rattle.wu_core.specs.declared.marks.Marks.{Marks}
 use Rattle.wu_schema.specs.Calm.{IsCalm}
 use Rattle.wu_store.specs.Sums.{AreSums}
 use Rattle.wu_schema.specs.declared.rows.HostSum.{HostSum}
+use Rattle.wu_schema.specs.declared.table.ProjectTable.TheVariants as the_table
 
 -- Nothing is written, and nothing is refused.
 abbrev pub DoesNothing : {X T E : Type 0} → X → X → Result T E → Type 0
@@ -258,8 +259,8 @@ HoldsHosts rows grants = HoldsAll rows (map (host_of grants) (hosts_of grants))
 -- was.
 pub record HasListed (place : ℕ) (more : List Grant) (t : ProjectTrees) (old new : Database) : Type 0 where
   pub schema : new.schema ≡ old.schema
-  pub rows : (grants : List Grant) → IsNextPlace place grants → ListsGrants (old.trees t.grant) grants → ListsGrants (new.trees t.grant) (grants ++ more)
-  pub others : (u : Table) → Has old.schema.tables u → u.tree ≢ t.grant → new.trees u.tree ≡ old.trees u.tree
+  pub rows : (grants : List Grant) → IsNextPlace place grants → ListsGrants (old.trees (t the_table.Grant)) grants → ListsGrants (new.trees (t the_table.Grant)) (grants ++ more)
+  pub others : (u : Table) → Has old.schema.tables u → u.tree ≢ (t the_table.Grant) → new.trees u.tree ≡ old.trees u.tree
   pub sound : IsDatabase new
 
 -- The rows of grants are put at consecutive places, from this one on; the rows of hosts are not changed yet.
@@ -270,12 +271,12 @@ PutsGrants place more old new = (version : ℕ) (t : ProjectTrees) → HasTables
 -- table that no action reaches stays as it was.
 pub record HasCredited (sums : List HostSum) (t : ProjectTrees) (old new : Database) : Type 0 where
   pub schema : new.schema ≡ old.schema
-  pub hosts : (grants more : List Grant) → AreSums sums more → HoldsHosts (old.trees t.host) grants → HoldsHosts (new.trees t.host) (grants ++ more)
-  pub shaped : IsShaped shape.Table (new.trees t.host)
-  pub others : (u : Table) → Has old.schema.tables u → u.tree ≢ t.host → IsCalm old.schema Enforced u t.host → new.trees u.tree ≡ old.trees u.tree
+  pub hosts : (grants more : List Grant) → AreSums sums more → HoldsHosts (old.trees (t the_table.Host)) grants → HoldsHosts (new.trees (t the_table.Host)) (grants ++ more)
+  pub shaped : IsShaped shape.Table (new.trees (t the_table.Host))
+  pub others : (u : Table) → Has old.schema.tables u → u.tree ≢ (t the_table.Host) → IsCalm old.schema Enforced u (t the_table.Host) → new.trees u.tree ≡ old.trees u.tree
   pub sound : IsDatabase new
 
 -- These sums are added to those of their hosts.
 abbrev pub Credits : List HostSum → Database → Database → Type 0
 Credits sums old new =
-    (version : ℕ) (t : ProjectTrees) → HasTables version old.schema t → IsDatabase old → IsShaped shape.Table (old.trees t.host) → HasCredited sums t old new
+    (version : ℕ) (t : ProjectTrees) → HasTables version old.schema t → IsDatabase old → IsShaped shape.Table (old.trees (t the_table.Host)) → HasCredited sums t old new

@@ -1,51 +1,12 @@
 -- The first that is wrong with the tables, in the written order.
 use Rattle.std.proofs.Common.{◌≡◌, ◌+◌, ◌<◌, ◌∙◌, ℕ, zero, suc, IfErr, IsErrAnd, OnOk, Result, Ok, Err, ap, arith, below_more, get_or, refl, subst, sym}
 use Rattle.sqlite.specs.Schema.{Schema}
-use Rattle.wu_schema.specs.Tables.{HasTables, ProjectTrees}
-use Rattle.wu_tables.specs.Found.{rank_of, AreThereBefore, HasBytewiseHosts, IsFirstAgainst, IsThere, StandsAgainst}
-use Rattle.wu_tables.specs.Known.{in_order, rank}
-use Rattle.wu_tables.specs.declared.known.ProjectTable.{ProjectTable}
-use Rattle.wu_tables.specs.declared.known.ProjectTable.TheVariants.{Archived, Grant, Host, HostClass, Import, Project, Result as Results, Workunit, WorkunitClass}
+use Rattle.wu_schema.specs.ProjectTables.{HasTables, IsTableOf, ProjectTrees, in_order, name_of, rank, table_at}
+use Rattle.wu_schema.proofs.TableOrder.{one_rank, rank_at, rank_low}
+use Rattle.wu_tables.specs.Found.{rank_of, AreThereBefore, HasBytewiseHosts, IsFirstAgainst, IsIn, IsThere, StandsAgainst}
+use Rattle.wu_schema.specs.declared.table.ProjectTable.{ProjectTable}
+use Rattle.wu_schema.specs.declared.table.ProjectTable.TheVariants.{Archived, Grant, Host, HostClass, Import, Project, Result as Results, Workunit, WorkunitClass}
 use Rattle.wu_tables.specs.declared.project.Misfit.{Misfit}
-
-at_rank : (which : ProjectTable) → get_or in_order (rank which) Project ≡ which
-at_rank Project = refl
-at_rank Workunit = refl
-at_rank Results = refl
-at_rank Grant = refl
-at_rank Host = refl
-at_rank Archived = refl
-at_rank Import = refl
-at_rank HostClass = refl
-at_rank WorkunitClass = refl
-
-rank_at : (place : ℕ) → place < 9 → rank (get_or in_order place Project) ≡ place
-rank_at zero low = refl
-rank_at (suc zero) low = refl
-rank_at (suc (suc zero)) low = refl
-rank_at (suc (suc (suc zero))) low = refl
-rank_at (suc (suc (suc (suc zero)))) low = refl
-rank_at (suc (suc (suc (suc (suc zero))))) low = refl
-rank_at (suc (suc (suc (suc (suc (suc zero)))))) low = refl
-rank_at (suc (suc (suc (suc (suc (suc (suc zero))))))) low = refl
-rank_at (suc (suc (suc (suc (suc (suc (suc (suc zero)))))))) low = refl
-rank_at (suc (suc (suc (suc (suc (suc (suc (suc (suc place))))))))) low = absurd (omega (arith, low))
-
--- each place is below that of the names of hosts
-rank_low : (which : ProjectTable) → rank which < 9
-rank_low Project = omega arith
-rank_low Workunit = omega arith
-rank_low Results = omega arith
-rank_low Grant = omega arith
-rank_low Host = omega arith
-rank_low Archived = omega arith
-rank_low Import = omega arith
-rank_low HostClass = omega arith
-rank_low WorkunitClass = omega arith
-
--- no two tables have one place
-one_rank : (which other : ProjectTable) → rank other ≡ rank which → which ≡ other
-one_rank which other same = sym (at_rank which) ∙ sym (ap (λ k. get_or in_order k Project) same) ∙ at_rank other
 
 module _ (version : ℕ) (schema : Schema) where
   pub none_before : AreThereBefore version schema 0
@@ -77,35 +38,18 @@ module _ (version : ℕ) (schema : Schema) where
   pub all_before : AreThereBefore version schema 9 → (which : ProjectTable) → AreThereBefore version schema (rank which)
   all_before all which other low = all other (rank_low other)
 
+  -- the tree of each
+  abbrev trees_from : AreThereBefore version schema 9 → HasBytewiseHosts version schema → ProjectTrees
+  trees_from all hosts Host = hosts.0
+  trees_from all hosts which = (all which (rank_low which)).0
+
+  each_there : (all : AreThereBefore version schema 9) (hosts : HasBytewiseHosts version schema) (which : ProjectTable) → IsTableOf which version → IsIn schema (name_of which) (table_at which) (trees_from all hosts which)
+  each_there all hosts Host is_in = hosts.1 is_in
+  each_there all hosts which is_in = (all which (rank_low which)).1 is_in
+
   -- all tables, in their trees
   pub tables_from : AreThereBefore version schema 9 → HasBytewiseHosts version schema → (trees : ProjectTrees) × HasTables version schema trees
-  tables_from all hosts =
-      let tree = λ (which : ProjectTable). (all which (rank_low which)).0 in
-      let there = λ (which : ProjectTable). (all which (rank_low which)).1 in (
-        record {
-          project = tree Project;
-          workunit = tree Workunit;
-          result = tree Results;
-          grant = tree Grant;
-          host = hosts.0;
-          archived = tree Archived;
-          import = tree Import;
-          host_class = tree HostClass;
-          workunit_class = tree WorkunitClass;
-        },
-        record {
-          project = there Project tt;
-          workunit = there Workunit tt;
-          result = there Results tt;
-          grant = there Grant tt;
-          host = hosts.1 tt;
-          archived = there Archived tt;
-          import = there Import tt;
-          host_class = there HostClass;
-          workunit_class = there WorkunitClass;
-          by_bytes = hosts.2;
-        },
-      )
+  tables_from all hosts = (trees_from all hosts, record { each = each_there all hosts; by_bytes = hosts.2 })
 
   -- what is known of the hosts completes the tables
   pub tables_found : {T : Type 0} (r : Result T Misfit) → AreThereBefore version schema 9 → OnOk r (HasBytewiseHosts version schema) → OnOk r ((trees : ProjectTrees) × HasTables version schema trees)

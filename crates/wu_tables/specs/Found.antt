@@ -12,9 +12,9 @@ use Rattle.sqlite_value.specs.Keys.{first_key}
 use Rattle.wu_schema.specs.Indexes.{IsIndexed, queue_indexes}
 use Rattle.wu_schema.specs.Tables.{HasNamed, OwnsTree, host_at, queue_at}
 use Rattle.wu_tables.specs.Forms.{table_of}
-use Rattle.wu_tables.specs.Known.{IsTableOf, name_of, rank, table_at}
-use Rattle.wu_tables.specs.declared.known.ProjectTable.{ProjectTable}
-use Rattle.wu_tables.specs.declared.known.ProjectTable.TheVariants.{Host}
+use Rattle.wu_schema.specs.ProjectTables.{IsTableOf, name_of, rank, table_at}
+use Rattle.wu_schema.specs.declared.table.ProjectTable.{ProjectTable}
+use Rattle.wu_schema.specs.declared.table.ProjectTable.TheVariants.{Host}
 use Rattle.wu_tables.specs.declared.forms.TableForm.{TableForm}
 use Rattle.wu_tables.specs.declared.project.Misfit.{Misfit}
 use Rattle.wu_tables.specs.declared.project.Misfit.TheVariants.{Missing, Altered, HostNames}
@@ -49,14 +49,14 @@ pub record HasQueueIn (schema : Schema) (tree : ℕ) : Type 0 where
 
 -- If the version has this table of a project, its name finds it in this tree.
 abbrev pub IsThere : ℕ → Schema → ProjectTable → ℕ → Type 0
-IsThere version schema which tree = IsTableOf version which → IsIn schema (name_of which) (table_at which) tree
+IsThere version schema which tree = IsTableOf which version → IsIn schema (name_of which) (table_at which) tree
 
 -- This is wrong with the schema: a table of the version is missing; or its name is there, but nowhere as the program
 -- makes it; or an index does not compare the bytes of the names of hosts.
 abbrev pub StandsAgainst : ℕ → Schema → Misfit → Type 0
-StandsAgainst version schema (Missing which) = IsTableOf version which × (table_named schema (name_of which) ≡ None)
+StandsAgainst version schema (Missing which) = IsTableOf which version × (table_named schema (name_of which) ≡ None)
 StandsAgainst version schema (Altered which) =
-    IsTableOf version which × IsSome (table_named schema (name_of which)) × ((tree : ℕ) → IsIn schema (name_of which) (table_at which) tree → ⊥)
+    IsTableOf which version × IsSome (table_named schema (name_of which)) × ((tree : ℕ) → IsIn schema (name_of which) (table_at which) tree → ⊥)
 StandsAgainst version schema HostNames = (tree : ℕ) × HasNamed schema (codes "host") (host_at tree) × (AreByBytes schema tree → ⊥)
 
 -- The place of what is wrong in the written order: that of its table, and for the names of hosts a place behind all

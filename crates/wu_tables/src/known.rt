@@ -1,28 +1,14 @@
 //! The tables that the program makes.
 
-ghost use Rattle.std.specs.Prelude.{◌≡◌, ◌↔◌, ℕ, IsTrue, codes};
+ghost use Rattle.std.specs.Prelude.{◌≡◌, ℕ, codes};
 ghost use Rattle.wu_schema.specs.Tables.{queue_at};
 ghost use Rattle.wu_tables.specs.Forms.{table_of};
-ghost use Rattle.wu_tables.specs.Known.{IsTableOf, name_of, table_at};
+ghost use Rattle.wu_schema.specs.ProjectTables.{name_of, table_at};
 
 use crate::forms::ColumnForm::{May, Needs};
 use crate::forms::{ReferenceForm, TableForm};
 use sqlite_schema::schema::Kind::{Blob, Integer, Text};
-use wu_core::CLASS_VERSION;
-
-/// A table of a project, the queue aside.
-#[derive(Clone, Copy, PartialEq, Eq)]
-pub enum ProjectTable {
-    Project,
-    Workunit,
-    Result,
-    Grant,
-    Host,
-    Archived,
-    Import,
-    HostClass,
-    WorkunitClass,
-}
+use wu_schema::ProjectTable;
 
 const PROJECT: TableForm = TableForm {
     name: "project",
@@ -200,37 +186,23 @@ const QUEUE: TableForm = TableForm {
     }],
 };
 
-impl ProjectTable {
-    /// Returns the form of the table.
-    pub fn form(self) -> TableForm
-        // The form has the name of the table.
-        ensures name { result.name.now ≡ name_of self }
-        // In any tree the form describes the table as the program makes it.
-        ensures table { (tree : ℕ) → table_of result tree ≡ table_at self tree }
-    {
-        match self {
-            ProjectTable::Project => PROJECT,
-            ProjectTable::Workunit => WORKUNIT,
-            ProjectTable::Result => RESULT,
-            ProjectTable::Grant => GRANT,
-            ProjectTable::Host => HOST,
-            ProjectTable::Archived => ARCHIVED,
-            ProjectTable::Import => IMPORT,
-            ProjectTable::HostClass => HOST_CLASS,
-            ProjectTable::WorkunitClass => WORKUNIT_CLASS,
-        }
-    }
-
-    /// Returns whether a project of this version has the table.
-    pub fn is_of(self, version: u64) -> bool
-        // It is true for the tables of classes from version 3 on, and for each other table in every
-        // version.
-        ensures { IsTrue result ↔ IsTableOf version self }
-    {
-        match self {
-            ProjectTable::HostClass | ProjectTable::WorkunitClass => version >= CLASS_VERSION,
-            _ => true,
-        }
+/// Returns the form of the table.
+pub fn form_of(table: ProjectTable) -> TableForm
+    // The form has the name of the table.
+    ensures name { result.name.now ≡ name_of table }
+    // In any tree the form describes the table as the program makes it.
+    ensures table { (tree : ℕ) → table_of result tree ≡ table_at table tree }
+{
+    match table {
+        ProjectTable::Project => PROJECT,
+        ProjectTable::Workunit => WORKUNIT,
+        ProjectTable::Result => RESULT,
+        ProjectTable::Grant => GRANT,
+        ProjectTable::Host => HOST,
+        ProjectTable::Archived => ARCHIVED,
+        ProjectTable::Import => IMPORT,
+        ProjectTable::HostClass => HOST_CLASS,
+        ProjectTable::WorkunitClass => WORKUNIT_CLASS,
     }
 }
 

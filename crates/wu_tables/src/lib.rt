@@ -11,7 +11,7 @@ mod project;
 mod queue;
 mod upgrades;
 
-pub use known::ProjectTable;
+pub use known::form_of;
 pub use others::has_only_a_project;
 pub use project::{Misfit, know_tables};
 pub use queue::queue_tree;

@@ -1,13 +1,13 @@
 //! The tables of a project, the queue aside.
 
 ghost use Rattle.std.specs.Prelude.{◌≡◌, IfErr, IfOk, OnOk};
-ghost use Rattle.wu_schema.specs.Tables.{HasTables, ProjectTrees};
 ghost use Rattle.wu_tables.specs.Found.{rank_of, AreThereBefore, HasBytewiseHosts, IsFirstAgainst, IsThere, StandsAgainst};
-ghost use Rattle.wu_tables.specs.Known.{rank};
+ghost use Rattle.wu_schema.specs.ProjectTables.{HasTables, ProjectTrees, rank};
 
-use crate::known::ProjectTable;
+use crate::known::form_of;
 use crate::lookup::{are_by_bytes, tree_of};
 use sqlite_schema::schema::Schema;
+use wu_schema::ProjectTable;
 
 /// The tables in the written order.
 const IN_ORDER: [ProjectTable; 9] = [
@@ -23,7 +23,7 @@ const IN_ORDER: [ProjectTable; 9] = [
 ];
 
 /// Why the tables of a project are not in a schema.
-#[derive(Clone, Copy, PartialEq, Eq)]
+#[derive(Clone, Copy)]
 pub enum Misfit {
     /// No table has this one's name.
     Missing(ProjectTable),
@@ -46,7 +46,7 @@ fn project_tree(schema: &Schema, version: u64, which: ProjectTable) -> Result<u3
     if !which.is_of(version) {
         return Ok(0);
     }
-    let form = which.form();
+    let form = form_of(which);
     if let Some(tree) = tree_of(schema, &form) {
         return Ok(tree);
     }

@@ -7,7 +7,7 @@ use Rattle.sqlite.specs.State.{CommitsShowing}
 use Rattle.wu_core.specs.declared.states.ServerState.{ServerState}
 use Rattle.wu_schema.specs.Restoring.{Restores}
 use Rattle.wu_schema.proofs.AskingLemmas.{fault_told}
-use Rattle.wu_schema.proofs.Parts.{Grants, Instances}
+use Rattle.wu_schema.specs.declared.table.ProjectTable.TheVariants as the_table
 use Rattle.wu_store.specs.Loading.{IsStoreFault, ServesUnlessFailed}
 use Rattle.wu_store.specs.Reads.{FindsAt, ReadsWorld}
 use Rattle.wu_schema.specs.Reading.{IsReadFault, server_state_cell}
@@ -149,7 +149,7 @@ module _ {S : Type 0} (g : Ghosts S) (old : Held S) where
         -- a row that has no state
         pub state_unread : (fault : Fault) → Restores server_state_cell (λ _. ⊤) (column row 0) (Err fault) → WalksStates g old new (Err fault)
         state_unread fault unread = walked_left g results_of (λ _. ⊤) CountsStates states_question old new (has.given ++ row ∷ []) further fault unread.refused (λ clean world stands can.
-            let front = walk_front Instances states_asked states_fit g states_question.select [] old new (has.given ++ row ∷ []) further world tt stands clean in
+            let front = walk_front the_table.Result states_asked states_fit g states_question.select [] old new (has.given ++ row ∷ []) further world tt stands clean in
             let has_state = next_state (all_states world) has.given row front.0 (states_found (state g old) (state g new) world stands ((has.given ++ row ∷ []) ++ front.0) front.1) in
             never_unread server_state_cell (λ _. ⊤) (column row 0) (Err fault) has_state.0 unread tt has_state.1)
 
@@ -215,7 +215,7 @@ module _ {S : Type 0} (g : Ghosts S) (old : Held S) where
       -- a row that has no number, and a sum that is too great
       pub credit_unread : (fault : Fault) → Restores number (λ _. ⊤) (column row 0) (Err fault) → WalksGrants g old new (Err fault)
       credit_unread fault unread = walked_left g granted_of IsCreditCountable CountsCredit credit_question old new (has.given ++ row ∷ []) further_on fault unread.refused (λ clean world stands can.
-          let front = walk_front Grants credit_asked credit_fits g credit_question.select [] old new (has.given ++ row ∷ []) further_on world tt stands clean in
+          let front = walk_front the_table.Grant credit_asked credit_fits g credit_question.select [] old new (has.given ++ row ∷ []) further_on world tt stands clean in
           let has_credit = next_credit world.grants has.given row front.0 (credit_found (state g old) (state g new) world stands ((has.given ++ row ∷ []) ++ front.0) front.1) in
           never_unread number (λ _. ⊤) (column row 0) (Err fault) has_credit.0 unread tt has_credit.1)
 
@@ -233,6 +233,6 @@ module _ {S : Type 0} (g : Ghosts S) (old : Held S) where
 
         pub credit_past : 2 ^ 64 ≤ credit + n → WalksGrants g old new (Err NotAProject)
         credit_past past = walked_left g granted_of IsCreditCountable CountsCredit credit_question old new (has.given ++ row ∷ []) further_on NotAProject (inr refl) (λ clean world stands can.
-            let front = walk_front Grants credit_asked credit_fits g credit_question.select [] old new (has.given ++ row ∷ []) further_on world tt stands clean in
+            let front = walk_front the_table.Grant credit_asked credit_fits g credit_question.select [] old new (has.given ++ row ∷ []) further_on world tt stands clean in
             let all = credit_summed world.grants ((has.given ++ row ∷ []) ++ front.0) (credit_found (state g old) (state g new) world stands ((has.given ++ row ∷ []) ++ front.0) front.1) in
             absurd (omega (arith, past, can, all, has.summed, numbers_summed has.given has.credits has.read, sum_within has.given row front.0 n reads)))

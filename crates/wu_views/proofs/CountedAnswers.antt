@@ -5,7 +5,10 @@ use Rattle.wu_core.specs.Codes.{server_state_code}
 use Rattle.wu_schema.proofs.AnswerLemmas.{meeting, showing}
 use Rattle.wu_schema.proofs.CountAnswers.{all_counted}
 use Rattle.wu_schema.proofs.CountTexts.{CountFits, Counted}
-use Rattle.wu_schema.proofs.Parts.{Part, Grants, HostClasses, Imports, Instances, WorkClasses, IsIn, name_of, parts_there, table_in, tree_in}
+use Rattle.wu_schema.proofs.Parts.{parts_there}
+use Rattle.wu_schema.specs.declared.table.ProjectTable.{ProjectTable}
+use Rattle.wu_schema.specs.declared.table.ProjectTable.TheVariants as the_table
+use Rattle.wu_schema.specs.ProjectTables.{IsTableOf, name_of, table_at}
 use Rattle.wu_schema.proofs.RowLemmas.{no_test}
 use Rattle.wu_schema.proofs.SelectLemmas.{Asked, Fits}
 use Rattle.wu_schema.specs.Reading.{server_state_cell}
@@ -35,20 +38,20 @@ unfolding everything
 classes_fit tree = record { tests = refl; strict = refl; height = (0, tt); few = omega arith; read = refl; typed = refl }
 
 module _ (old new : State) (world : World) (s : Refines old.now world) (rows : List Row) where
-  part_counted : (p : Part) → IsIn p world.version → (text : List ℕ) → ((tree : ℕ) → CountFits (name_of p) (table_in p tree) (counting text)) → Shown text [] old new rows → IsCount rows (length (old.now.trees (table_in p (tree_in s.trees p)).tree))
-  part_counted p is_in text fits h = let has = parts_there old.now world s p is_in in (all_counted (name_of p) has.0 (table_in p (tree_in s.trees p)) (counting text) old new has.1 [] rows (fits _) h).one ∙ ap (λ rs. (count (length rs) ∷ []) ∷ []) (no_test _)
+  part_counted : (p : ProjectTable) → IsTableOf p world.version → (text : List ℕ) → ((tree : ℕ) → CountFits (name_of p) (table_at p tree) (counting text)) → Shown text [] old new rows → IsCount rows (length (old.now.trees (table_at p (s.trees p)).tree))
+  part_counted p is_in text fits h = let has = parts_there old.now world s p is_in in (all_counted (name_of p) has.0 (table_at p (s.trees p)) (counting text) old new has.1 [] rows (fits _) h).one ∙ ap (λ rs. (count (length rs) ∷ []) ∷ []) (no_test _)
 
   pub workunits_counted : KnowsClasses world → Shown COUNT_WORKUNITS.now [] old new rows → IsCount rows (workunit_count world)
   workunits_counted known h =
-      part_counted WorkClasses known _ workunits_fit h ∙ ap (λ n. (count n ∷ []) ∷ []) (ap (λ rs. length rs) (s.rows.classes known).workunits.same ∙ length-map world.workunits _)
+      part_counted the_table.WorkunitClass known _ workunits_fit h ∙ ap (λ n. (count n ∷ []) ∷ []) (ap (λ rs. length rs) (s.rows.classes known).workunits.same ∙ length-map world.workunits _)
 
   pub imports_counted : Shown COUNT_IMPORTS.now [] old new rows → IsCount rows (import_count world)
   imports_counted h =
-      part_counted Imports tt _ imports_fit h ∙ ap (λ n. (count n ∷ []) ∷ []) (sym (length-map (old.now.trees s.trees.import) (drop 1)) ∙ length_permutation _ _ s.rows.imports.same ∙ length-map world.imports _)
+      part_counted the_table.Import tt _ imports_fit h ∙ ap (λ n. (count n ∷ []) ∷ []) (sym (length-map (old.now.trees (s.trees the_table.Import)) (drop 1)) ∙ length_permutation _ _ s.rows.imports.same ∙ length-map world.imports _)
 
   pub classes_counted : KnowsClasses world → Shown COUNT_CLASSES.now [] old new rows → IsCount rows (class_count world)
   classes_counted known h =
-      part_counted HostClasses known _ classes_fit h ∙ ap (λ n. (count n ∷ []) ∷ []) (sym (length-map (old.now.trees s.trees.host_class) (drop 1)) ∙ length_permutation _ _ (s.rows.classes known).hosts.same ∙ length-map world.classes _)
+      part_counted the_table.HostClass known _ classes_fit h ∙ ap (λ n. (count n ∷ []) ∷ []) (sym (length-map (old.now.trees (s.trees the_table.HostClass)) (drop 1)) ∙ length_permutation _ _ (s.rows.classes known).hosts.same ∙ length-map world.classes _)
 
 -- ---- the states of instances
 
@@ -60,7 +63,7 @@ unfolding everything
 states_fit tree = record { shown = refl; tests = refl; strict = refl; order = refl; height = (0, tt); few = omega arith; limit = λ schema. refl; read = refl; typed = refl }
 
 pub states_question : IsQuestion states_asked.text [] Refines
-states_question = question Instances (λ _. tt) states_asked states_fit [] refl (λ _. refl)
+states_question = question the_table.Result (λ _. tt) states_asked states_fit [] refl (λ _. refl)
 
 -- the state among the cells of an instance
 abbrev state_in : Row → Value
@@ -96,7 +99,7 @@ unfolding everything
 credit_fits tree = record { shown = refl; tests = refl; strict = refl; order = refl; height = (0, tt); few = omega arith; limit = λ schema. refl; read = refl; typed = refl }
 
 pub credit_question : IsQuestion credit_asked.text [] Refines
-credit_question = question Grants (λ _. tt) credit_asked credit_fits [] refl (λ _. refl)
+credit_question = question the_table.Grant (λ _. tt) credit_asked credit_fits [] refl (λ _. refl)
 
 shown_credit : (k : ℕ) (grants : List Grant) → first_cells (showing (col 1 5 ∷ []) [] (map stored_grant (enumerate_from k grants))) ≡ map credit_cell grants
 shown_credit k [] = refl
@@ -106,8 +109,8 @@ module _ (old new : State) (world : World) (s : Refines old.now world) (rows : L
   -- the rows of the answer are the states of all instances, in some order
   pub states_found : Shown states_asked.text [] old new rows → IsPermutation (map server_state_cell (all_states world)) (first_cells rows)
   states_found h =
-      let stored = old.now.trees s.trees.result in
-      let seen = IsPermutation-map (λ (row : Row). column row 0) _ _ (asked_rows Instances states_asked states_fit old new world s tt [] rows refl h) in
+      let stored = old.now.trees (s.trees the_table.Result) in
+      let seen = IsPermutation-map (λ (row : Row). column row 0) _ _ (asked_rows the_table.Result states_asked states_fit old new world s tt [] rows refl h) in
       let cells : first_cells (showing (col 1 3 ∷ []) [] (meeting [] [] stored)) ≡ map state_in (map (drop 1) stored) = ap (λ rs. first_cells (showing (col 1 3 ∷ []) [] rs)) (no_test stored) ∙ shown_states stored in
       let kept = IsPermutation-map state_in (flat_map instances_of world.workunits) (map (drop 1) stored) s.rows.instances.same in
       IsPermutation-trans _ _ _ (subst (λ vs. IsPermutation vs (map state_in (map (drop 1) stored))) (states_of world.workunits) kept) (subst (λ vs. IsPermutation vs (first_cells rows)) cells seen)
@@ -115,7 +118,7 @@ module _ (old new : State) (world : World) (s : Refines old.now world) (rows : L
   -- and those of the other the credit of all grants
   pub credit_found : Shown credit_asked.text [] old new rows → IsPermutation (map credit_cell world.grants) (first_cells rows)
   credit_found h =
-      let seen = IsPermutation-map (λ (row : Row). column row 0) _ _ (asked_rows Grants credit_asked credit_fits old new world s tt [] rows refl h) in
-      let cells : first_cells (showing (col 1 5 ∷ []) [] (meeting [] [] (old.now.trees s.trees.grant))) ≡ map credit_cell world.grants =
-      ap (λ rs. first_cells (showing (col 1 5 ∷ []) [] rs)) (no_test (old.now.trees s.trees.grant) ∙ s.rows.grants.same) ∙ shown_credit 1 world.grants in
+      let seen = IsPermutation-map (λ (row : Row). column row 0) _ _ (asked_rows the_table.Grant credit_asked credit_fits old new world s tt [] rows refl h) in
+      let cells : first_cells (showing (col 1 5 ∷ []) [] (meeting [] [] (old.now.trees (s.trees the_table.Grant)))) ≡ map credit_cell world.grants =
+      ap (λ rs. first_cells (showing (col 1 5 ∷ []) [] rs)) (no_test (old.now.trees (s.trees the_table.Grant)) ∙ s.rows.grants.same) ∙ shown_credit 1 world.grants in
       subst (λ vs. IsPermutation vs (first_cells rows)) cells seen

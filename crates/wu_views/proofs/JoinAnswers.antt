@@ -20,6 +20,7 @@ use Rattle.wu_store.specs.StandsFor.{KnowsClasses}
 use Rattle.wu_views.proofs.JoinTexts.{joined_query, results_order, results_query, results_shows, results_tests, results_text, workunits_order, workunits_query, workunits_shows, workunits_tests, workunits_text}
 use Rattle.wu_views.specs.Listings.{all_results_shown, result_shown, results_shown, workunit_shown}
 use Rattle.std.proofs.lemmas.List.Concat.{flat_map-append}
+use Rattle.wu_schema.specs.declared.table.ProjectTable.TheVariants as the_table
 
 -- ---- lists
 
@@ -133,23 +134,23 @@ module _ (work class : ℕ) where
 
 module _ (old : State) (world : World) (known : KnowsClasses world) (s : Refines old.now world) (rows : List Row) where
   -- the answer lists each workunit once, in order of number
-  pub workunits_listed : IsSureAnswer (workunits_query s.trees.workunit s.trees.workunit_class) (overlay old.now.trees []) [] rows → rows ≡ map workunit_shown world.workunits
+  pub workunits_listed : IsSureAnswer (workunits_query (s.trees the_table.Workunit) (s.trees the_table.WorkunitClass)) (overlay old.now.trees []) [] rows → rows ≡ map workunit_shown world.workunits
   workunits_listed h =
-      let work = s.trees.workunit in
-      let class = s.trees.workunit_class in
+      let work = (s.trees the_table.Workunit) in
+      let class = (s.trees the_table.WorkunitClass) in
       let ws = world.workunits in
       let up = world_rises old.now world s in
       let pairs : flat_map (with_classes work class (old.now.trees class)) (old.now.trees work) ≡ map workunit_pair ws =
       (λ i. flat_map (with_classes work class ((s.rows.classes known).workunits.same i)) (s.rows.workunits.same i)) ∙ flat_map-map (with_classes work class (map stored_class ws)) stored_workunit ws
       ∙ one_each (λ w. with_classes work class (map stored_class ws) (stored_workunit w)) workunit_pair ws (workunit_met work class ws up) in
-      sure_joined work class workunits_tests workunits_shows workunits_order [] old.now rows (map workunit_pair ws) s.tables.workunit.1.low (s.tables.workunit_class known).1.low (workunits_rise work class ws up)
+      sure_joined work class workunits_tests workunits_shows workunits_order [] old.now rows (map workunit_pair ws) (s.tables.each the_table.Workunit tt).1.low (s.tables.each the_table.WorkunitClass known).1.low (workunits_rise work class ws up)
       (subst (IsPermutation (map workunit_pair ws)) (sym pairs) (IsPermutation-refl (map workunit_pair ws))) h
       ∙ map-map (λ (o : Output). o.1) workunit_pair ws
 
   -- once the text compiles to it
-  module _ (p : Parsed) (names : List Name) (it : CompilesTo old.now.schema workunits_text p (Select (alone (workunits_query s.trees.workunit s.trees.workunit_class)) names)) (new : State) where
+  module _ (p : Parsed) (names : List Name) (it : CompilesTo old.now.schema workunits_text p (Select (alone (workunits_query (s.trees the_table.Workunit) (s.trees the_table.WorkunitClass))) names)) (new : State) where
     pub workunits_found : Shown workunits_text [] old new rows → rows ≡ map workunit_shown world.workunits
-    workunits_found h = workunits_listed (shown_answers workunits_text [] old new p (workunits_query s.trees.workunit s.trees.workunit_class) names it rows h).answer
+    workunits_found h = workunits_listed (shown_answers workunits_text [] old new p (workunits_query (s.trees the_table.Workunit) (s.trees the_table.WorkunitClass)) names it rows h).answer
 
 -- ---- the instances, with the names of their workunits
 
@@ -245,10 +246,10 @@ results_seen ws =
 
 module _ (old : State) (world : World) (known : KnowsClasses world) (s : Refines old.now world) (rows : List Row) where
   -- the answer lists each instance once, in order of workunit and number
-  pub results_listed : IsSureAnswer (results_query s.trees.result s.trees.workunit) (overlay old.now.trees []) [] rows → rows ≡ all_results_shown world
+  pub results_listed : IsSureAnswer (results_query (s.trees the_table.Result) (s.trees the_table.Workunit)) (overlay old.now.trees []) [] rows → rows ≡ all_results_shown world
   results_listed h =
-      let result = s.trees.result in
-      let work = s.trees.workunit in
+      let result = (s.trees the_table.Result) in
+      let work = (s.trees the_table.Workunit) in
       let ws = world.workunits in
       let up = world_rises old.now world s in
       let stored = old.now.trees result in
@@ -256,11 +257,11 @@ module _ (old : State) (world : World) (known : KnowsClasses world) (s : Refines
       subst (λ os. IsPermutation os (flat_map (cells_met (map stored_workunit ws)) (map (drop 1) stored))) (all_results_met ws up) (IsPermutation-flat_map (cells_met (map stored_workunit ws)) (flat_map instances_of ws) (map (drop 1) stored) s.rows.instances.same) in
       let found : flat_map (with_names result work (old.now.trees work)) stored ≡ flat_map (cells_met (map stored_workunit ws)) (map (drop 1) stored) =
       (λ i. flat_map (with_names result work (s.rows.workunits.same i)) stored) ∙ all_behind result work (map stored_workunit ws) stored in
-      sure_joined result work results_tests results_shows results_order [] old.now rows (flat_map result_pairs ws) s.tables.result.1.low s.tables.workunit.1.low (results_rise result work ws up)
+      sure_joined result work results_tests results_shows results_order [] old.now rows (flat_map result_pairs ws) (s.tables.each the_table.Result tt).1.low (s.tables.each the_table.Workunit tt).1.low (results_rise result work ws up)
       (subst (IsPermutation (flat_map result_pairs ws)) (sym found) cells) h
       ∙ results_seen ws
 
   -- once the text compiles to it
-  module _ (p : Parsed) (names : List Name) (it : CompilesTo old.now.schema results_text p (Select (alone (results_query s.trees.result s.trees.workunit)) names)) (new : State) where
+  module _ (p : Parsed) (names : List Name) (it : CompilesTo old.now.schema results_text p (Select (alone (results_query (s.trees the_table.Result) (s.trees the_table.Workunit))) names)) (new : State) where
     pub results_found : Shown results_text [] old new rows → rows ≡ all_results_shown world
-    results_found h = results_listed (shown_answers results_text [] old new p (results_query s.trees.result s.trees.workunit) names it rows h).answer
+    results_found h = results_listed (shown_answers results_text [] old new p (results_query (s.trees the_table.Result) (s.trees the_table.Workunit)) names it rows h).answer

@@ -15,7 +15,10 @@ use Rattle.sqlite_resolve.specs.Body.{tests}
 use Rattle.sqlite_resolve.specs.Expr.{lower}
 use Rattle.sqlite_resolve.specs.Order.{sorts}
 use Rattle.wu_schema.proofs.ExprLemmas.{column, lower_step, so_far}
-use Rattle.wu_schema.proofs.Parts.{Instances, IsIn, Part, WorkClasses, Workunits, name_of, parts_there, table_in, table_of, tree_in}
+use Rattle.wu_schema.proofs.Parts.{parts_there, table_of}
+use Rattle.wu_schema.specs.declared.table.ProjectTable.{ProjectTable}
+use Rattle.wu_schema.specs.declared.table.ProjectTable.TheVariants as the_table
+use Rattle.wu_schema.specs.ProjectTables.{IsTableOf, name_of, table_at}
 use Rattle.wu_schema.specs.Tables.{IsClassedVersion}
 use Rattle.wu_schema.proofs.QueryLemmas.{alone}
 use Rattle.wu_schema.proofs.SelectLemmas.{CompilesTo, the}
@@ -219,24 +222,24 @@ module _ (result work : ℕ) where
 -- ---- over tables that stand for a world with classes
 
 -- the SELECT of two parts is a question, and what it compiles to
-pub record JoinsParts (p r : Part) (q : AskedOfTwo) : Type 1 where
+pub record JoinsParts (p r : ProjectTable) (q : AskedOfTwo) : Type 1 where
   pub question : IsQuestion q.text [] WithClasses
   pub here : (old : State) (world : World) → KnowsClasses world → (s : Refines old.now world)
       → CompilesTo old.now.schema q.text (parsed_of (name_of p) (name_of r) (table_of s.trees p) (table_of s.trees r) q) (command.Select (alone (query_of (name_of p) (name_of r) (table_of s.trees p) (table_of s.trees r) q)) (names_of (name_of p) (name_of r) (table_of s.trees p) (table_of s.trees r) q))
 
 -- where it fits their tables, only memory, the disk or size may fail it
-joins_parts : (p r : Part) (q : AskedOfTwo) → ((version : ℕ) → IsClassedVersion version → IsIn p version × IsIn r version) → first q.text ≡ Ok (parsed_of (name_of p) (name_of r) (table_in p 0) (table_in r 0) q)
-    → ((tree other : ℕ) (schema : Schema) (at there : ℕ) (has : HasTable schema (name_of p) at (table_in p tree)) (has_other : HasTable schema (name_of r) there (table_in r other)) → FitsTwo (name_of p) (name_of r) (table_in p tree) (table_in r other) q schema at there has has_other) → JoinsParts p r q
+joins_parts : (p r : ProjectTable) (q : AskedOfTwo) → ((version : ℕ) → IsClassedVersion version → IsTableOf p version × IsTableOf r version) → first q.text ≡ Ok (parsed_of (name_of p) (name_of r) (table_at p 0) (table_at r 0) q)
+    → ((tree other : ℕ) (schema : Schema) (at there : ℕ) (has : HasTable schema (name_of p) at (table_at p tree)) (has_other : HasTable schema (name_of r) there (table_at r other)) → FitsTwo (name_of p) (name_of r) (table_at p tree) (table_at r other) q schema at there has has_other) → JoinsParts p r q
 joins_parts p r q are_in read fits =
     let fit = λ (db : Database) (world : World) (known : KnowsClasses world) (s : Refines db world).
     let are = are_in world.version known in
     let one = parts_there db world s p are.0 in
     let other = parts_there db world s r are.1 in
-    fits (tree_in s.trees p) (tree_in s.trees r) db.schema one.0 other.0 one.1 other.1 in
+    fits (s.trees p) (s.trees r) db.schema one.0 other.0 one.1 other.1 in
     let here = λ (old : State) (world : World) (known : KnowsClasses world) (s : Refines old.now world). compiles_two (name_of p) (name_of r) (table_of s.trees p) (table_of s.trees r) q old.now.schema _ _ _ _ (fit old.now world known s) in
     record {
       question = record {
-        select = record { parsed = parsed_of (name_of p) (name_of r) (table_in p 0) (table_in r 0) q; select = select_of (name_of p) (name_of r) (table_in p 0) (table_in r 0) q; read = read; is = refl };
+        select = record { parsed = parsed_of (name_of p) (name_of r) (table_at p 0) (table_at r 0) q; select = select_of (name_of p) (name_of r) (table_at p 0) (table_at r 0) q; read = read; is = refl };
         told = λ old new e h world stood unlimited.
             let (known, s) = stood in
             let one = table_of s.trees p in
@@ -247,8 +250,8 @@ joins_parts p r q are_in read fits =
     }
 
 -- the SELECT of the workunits, and that of the instances
-pub workunits_joined : JoinsParts Workunits WorkClasses workunits_asked
-workunits_joined = joins_parts Workunits WorkClasses workunits_asked (λ version known. (tt, known)) (workunits_read 0 0) workunits_fit
+pub workunits_joined : JoinsParts the_table.Workunit the_table.WorkunitClass workunits_asked
+workunits_joined = joins_parts the_table.Workunit the_table.WorkunitClass workunits_asked (λ version known. (tt, known)) (workunits_read 0 0) workunits_fit
 
-pub results_joined : JoinsParts Instances Workunits results_asked
-results_joined = joins_parts Instances Workunits results_asked (λ version known. (tt, tt)) (results_read 0 0) results_fit
+pub results_joined : JoinsParts the_table.Result the_table.Workunit results_asked
+results_joined = joins_parts the_table.Result the_table.Workunit results_asked (λ version known. (tt, tt)) (results_read 0 0) results_fit

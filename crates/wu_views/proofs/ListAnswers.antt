@@ -8,7 +8,7 @@ use Rattle.sqlite_value.specs.declared.keys.Key.{Key}
 use Rattle.wu_core.specs.declared.workunit.HostClass.{HostClass}
 use Rattle.wu_core.proofs.HostLemmas.{once, pairs_ascend}
 use Rattle.wu_core.proofs.ClassLemmas.{Before}
-use Rattle.wu_schema.proofs.Parts.{Archive, HostClasses, Hosts, Imports}
+use Rattle.wu_schema.specs.declared.table.ProjectTable.TheVariants as the_table
 use Rattle.wu_schema.proofs.RowLemmas.{no_test}
 use Rattle.wu_schema.proofs.SelectLemmas.{Asked, Fits}
 use Rattle.wu_schema.specs.Refines.{host_of}
@@ -76,12 +76,12 @@ host_pairs tree (v ∷ r) = refl
 pub hosts_found : (old new : State) (rows : List Row) → Shown hosts_asked.text [] old new rows → (world : World) → KnowsClasses world → Refines old.now world → rows ≡ hosts_shown world
 hosts_found old new rows h world known s =
     let grants = world.grants in
-    all_sorted s.trees.host host_shows 1 (host_of grants) host_pair (hosts_of grants) old.now rows s.tables.host.1.low (host_pairs s.trees.host) (names_rise grants (hosts_of grants) (once grants)) s.rows.hosts.same
-    (asked_answers Hosts hosts_asked hosts_fits old new world s tt [] rows h).answer
+    all_sorted (s.trees the_table.Host) host_shows 1 (host_of grants) host_pair (hosts_of grants) old.now rows (s.tables.each the_table.Host tt).1.low (host_pairs (s.trees the_table.Host)) (names_rise grants (hosts_of grants) (once grants)) s.rows.hosts.same
+    (asked_answers the_table.Host hosts_asked hosts_fits old new world s tt [] rows h).answer
     ∙ names_shown grants (hosts_of grants)
 
 pub hosts_answer : AnswersAll hosts_asked.text hosts_shown
-hosts_answer = answers_all Hosts (λ version known. tt) hosts_asked hosts_fits refl (λ tree. refl) hosts_shown hosts_found
+hosts_answer = answers_all the_table.Host (λ version known. tt) hosts_asked hosts_fits refl (λ tree. refl) hosts_shown hosts_found
 
 -- ---- the archive, in order of archiving
 
@@ -100,14 +100,14 @@ archive_shown world = map placed_archived_row (archive_of world)
 
 pub archive_found : (old new : State) (rows : List Row) → Shown archive_asked.text [] old new rows → (world : World) → KnowsClasses world → Refines old.now world → rows ≡ archive_shown world
 archive_found old new rows h world known s =
-    let tree = s.trees.archived in
+    let tree = (s.trees the_table.Archived) in
     let shown : Row → Row = λ r. eval_all archive_shows ([] ∷ r ∷ []) in
-    sure_in_order tree [] archive_shows no_limit [] old.now rows s.tables.archived.1.low s.rows.archived.shaped.0 (asked_answers Archive archive_asked archive_fits old new world s tt [] rows h).answer
+    sure_in_order tree [] archive_shows no_limit [] old.now rows (s.tables.each the_table.Archived tt).1.low s.rows.archived.shaped.0 (asked_answers the_table.Archived archive_asked archive_fits old new world s tt [] rows h).answer
     ∙ ap (map shown) (no_test (old.now.trees tree) ∙ s.rows.archived.same)
     ∙ map-map shown stored_archived (archive_of world)
 
 pub archive_answer : AnswersAll archive_asked.text archive_shown
-archive_answer = answers_all Archive (λ version known. tt) archive_asked archive_fits refl (λ tree. refl) archive_shown archive_found
+archive_answer = answers_all the_table.Archived (λ version known. tt) archive_asked archive_fits refl (λ tree. refl) archive_shown archive_found
 
 -- ---- the classes of hosts, in order of their names
 
@@ -145,12 +145,12 @@ classes_shown world = map class_cells world.classes
 
 pub classes_found : (old new : State) (rows : List Row) → Shown classes_asked.text [] old new rows → (world : World) → KnowsClasses world → Refines old.now world → rows ≡ classes_shown world
 classes_found old new rows h world known s =
-    all_sorted s.trees.host_class class_shows 1 class_cells class_pair world.classes old.now rows (s.tables.host_class known).1.low (class_pairs s.trees.host_class) (classes_rise world.classes (rising world.classes (pairs_ascend Before world.classes s.rows.classes_in_order)))
-    (s.rows.classes known).hosts.same (asked_answers HostClasses classes_asked classes_fits old new world s known [] rows h).answer
+    all_sorted (s.trees the_table.HostClass) class_shows 1 class_cells class_pair world.classes old.now rows (s.tables.each the_table.HostClass known).1.low (class_pairs (s.trees the_table.HostClass)) (classes_rise world.classes (rising world.classes (pairs_ascend Before world.classes s.rows.classes_in_order)))
+    (s.rows.classes known).hosts.same (asked_answers the_table.HostClass classes_asked classes_fits old new world s known [] rows h).answer
     ∙ map-map (λ (o : Output). o.1) it_pair world.classes
 
 pub classes_answer : AnswersAll classes_asked.text classes_shown
-classes_answer = answers_all HostClasses (λ version known. known) classes_asked classes_fits refl (λ tree. refl) classes_shown classes_found
+classes_answer = answers_all the_table.HostClass (λ version known. known) classes_asked classes_fits refl (λ tree. refl) classes_shown classes_found
 
 -- ---- imports, in order of their kinds and names
 
@@ -201,14 +201,14 @@ imports_shown world = map import_shown (imports_in_order world.imports)
 pub imports_found : (old new : State) (rows : List Row) → Shown imports_asked.text [] old new rows → (world : World) → KnowsClasses world → Refines old.now world → rows ≡ imports_shown world
 imports_found old new rows h world known s =
     let all = imports_in_order world.imports in
-    let same : IsPermutation (map import_cells all) (map (drop 1) (old.now.trees s.trees.import)) =
+    let same : IsPermutation (map import_cells all) (map (drop 1) (old.now.trees (s.trees the_table.Import))) =
     IsPermutation-trans _ _ _ (IsPermutation-map import_cells _ _ (in_order_same world.imports)) s.rows.imports.same in
-    all_ordered s.trees.import import_shows import_sorts import_cells import_pair all old.now rows s.tables.import.1.low (import_pairs s.trees.import)
-    (imports_rise s.trees.import all (in_order_rises world.imports s.rows.imported_once)) same (asked_answers Imports imports_asked imports_fits old new world s tt [] rows h).answer
+    all_ordered (s.trees the_table.Import) import_shows import_sorts import_cells import_pair all old.now rows (s.tables.each the_table.Import tt).1.low (import_pairs (s.trees the_table.Import))
+    (imports_rise (s.trees the_table.Import) all (in_order_rises world.imports s.rows.imported_once)) same (asked_answers the_table.Import imports_asked imports_fits old new world s tt [] rows h).answer
     ∙ map-map (λ (o : Output). o.1) pair_of all
 
 pub imports_answer : AnswersAll imports_asked.text imports_shown
-imports_answer = answers_all Imports (λ version known. tt) imports_asked imports_fits refl (λ tree. refl) imports_shown imports_found
+imports_answer = answers_all the_table.Import (λ version known. tt) imports_asked imports_fits refl (λ tree. refl) imports_shown imports_found
 
 -- ---- workunits with their classes, in order of number
 

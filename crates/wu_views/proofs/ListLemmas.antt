@@ -3,7 +3,9 @@ use Rattle.wu_schema.proofs.Words.{ap, length, Ghosts, Has, Held, IsUnchanged, L
 use Rattle.std.specs.List.{AllZip}
 use Rattle.sqlite.specs.Command.TheVariants.{Select}
 use Rattle.sqlite.specs.Given.{HasGiven}
-use Rattle.wu_schema.proofs.Parts.{IsIn, Part, name_of, parts_there, table_in, tree_in}
+use Rattle.wu_schema.proofs.Parts.{parts_there}
+use Rattle.wu_schema.specs.declared.table.ProjectTable.{ProjectTable}
+use Rattle.wu_schema.specs.ProjectTables.{IsTableOf, name_of, table_at}
 use Rattle.wu_schema.proofs.QueryLemmas.{alone}
 use Rattle.wu_schema.proofs.SelectLemmas.{Asked, CompilesTo, Fits, IsTyped, compiles, names_of, parsed_of, query_of}
 use Rattle.wu_schema.specs.Tables.{IsClassedVersion}
@@ -45,14 +47,14 @@ pub record AnswersAll (text : List ℕ) (rows_of : World → List Row) : Type 1 
   pub found : (old new : State) (rows : List Row) → Shown text [] old new rows → (world : World) → KnowsClasses world → Refines old.now world → rows ≡ rows_of world
 
 -- one over a table of the project
-module _ (p : Part) (in_p : (version : ℕ) → IsClassedVersion version → IsIn p version) (q : Asked) (fits : (tree : ℕ) → Fits (name_of p) (table_in p tree) q) (none : q.parameters ≡ []) (typed : (tree : ℕ) → IsTyped (name_of p) (table_in p tree) q []) where
+module _ (p : ProjectTable) (in_p : (version : ℕ) → IsClassedVersion version → IsTableOf p version) (q : Asked) (fits : (tree : ℕ) → Fits (name_of p) (table_at p tree) q) (none : q.parameters ≡ []) (typed : (tree : ℕ) → IsTyped (name_of p) (table_at p tree) q []) where
   pub answers_all : (rows_of : World → List Row) → ((old new : State) (rows : List Row) → Shown q.text [] old new rows → (world : World) → KnowsClasses world → Refines old.now world → rows ≡ rows_of world) → AnswersAll q.text rows_of
   answers_all rows_of found = record {
     question = class_question p in_p q fits [] (ap (λ (ps : List Name). length ps) (sym none)) typed;
     compiles = λ old world known s.
         let has = parts_there old.now world s p (in_p world.version known) in
-        let table = table_in p (tree_in s.trees p) in
-        (parsed_of (name_of p) table q, query_of (name_of p) table q, names_of (name_of p) table q, compiles old.now.schema (name_of p) has.0 table has.1 q (fits (tree_in s.trees p)));
+        let table = table_at p (s.trees p) in
+        (parsed_of (name_of p) table q, query_of (name_of p) table q, names_of (name_of p) table q, compiles old.now.schema (name_of p) has.0 table has.1 q (fits (s.trees p)));
     found = found;
   }
 

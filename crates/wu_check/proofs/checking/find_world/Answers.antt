@@ -1,5 +1,5 @@
 use Rattle.wu_schema.proofs.Words.{Schema, arith, inl, refl, state, subst}
-use Rattle.wu_schema.specs.Tables.{HasTables}
+use Rattle.wu_schema.specs.ProjectTables.{HasTables}
 use Rattle.wu_check.specs.Findings.{IsBasis, IsBasisLater}
 use Rattle.wu_check.specs.Versions.{IsReadVersion}
 use Rattle.wu_check.specs.declared.checking.Basis.TheVariants as basis

@@ -1,5 +1,6 @@
 use Rattle.wu_schema.proofs.Words.{Err, Ok, Schema, arith, inr, state, subst, sym}
-use Rattle.wu_schema.specs.Tables.{HasTables, IsClassedVersion}
+use Rattle.wu_schema.specs.Tables.{IsClassedVersion}
+use Rattle.wu_schema.specs.ProjectTables.{HasTables}
 use Rattle.wu_check.specs.Findings.{IsBasisOf, TellsLaterFirst}
 use Rattle.wu_check.specs.declared.checking.Basis.TheVariants as basis
 use Rattle.wu_check.specs.declared.finding.Finding.{Finding}

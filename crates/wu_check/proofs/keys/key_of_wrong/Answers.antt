@@ -13,7 +13,7 @@ pub bounds-workunits-place : goal.bounds-workunits-place
 bounds-workunits-place c = subst (λ (ws : List Workunit). c.in-Some.place < length ws) (sym c.workunits.ensures) (row_within c.args.loaded.now c.args.wrong table.Workunit c.in-Some.place c.requires (sym c.table.ensures ∙ c.in-Workunit.is) (sym c.place.ensures ∙ c.in-Some.is))
 
 pub place_from_one-requires : goal.place_from_one-requires
-place_from_one-requires c = subst (λ (gs : List Grant). c.in-Some.place < length gs) (sym c.grants.ensures) (row_within c.args.loaded.now c.args.wrong table.CreditGrant c.in-Some.place c.requires (sym c.table.ensures ∙ c.in-CreditGrant.is) (sym c.place.ensures ∙ c.in-Some.is))
+place_from_one-requires c = subst (λ (gs : List Grant). c.in-Some.place < length gs) (sym c.grants.ensures) (row_within c.args.loaded.now c.args.wrong table.Grant c.in-Some.place c.requires (sym c.table.ensures ∙ c.in-Grant.is) (sym c.place.ensures ∙ c.in-Some.is))
 
 pub place_from_one-requires-in-Archived : goal.place_from_one-requires-in-Archived
 place_from_one-requires-in-Archived c = subst (λ (rows : List Archived). c.in-Some.place < length rows) (sym c.archived.ensures) (row_within c.args.loaded.now c.args.wrong table.Archived c.in-Some.place c.requires (sym c.table.ensures ∙ c.in-Archived.is) (sym c.place.ensures ∙ c.in-Some.is))
@@ -38,9 +38,9 @@ returns-in-Workunit c =
     let there = subst (λ (ws : List Workunit). slice_get ws place ≡ Some read) c.workunits.ensures (slice_get-get_or c.workunits.result.now place c.index-workunits-place.result within) in
     record { key = key_at c.args.loaded.now c.args.wrong table.Workunit place (key.Workunit read.number) (sym c.table.ensures ∙ c.in-Workunit.is) (sym c.place.ensures ∙ c.in-Some.is) (read, (place, refl, there), refl); memory = tt }
 
-pub returns-in-CreditGrant : goal.returns-in-CreditGrant
-returns-in-CreditGrant c = record {
-  key = key_at c.args.loaded.now c.args.wrong table.CreditGrant c.in-Some.place (key.Grant c.place_from_one.result) (sym c.table.ensures ∙ c.in-CreditGrant.is) (sym c.place.ensures ∙ c.in-Some.is) (c.in-Some.place, refl, ap key.Grant c.place_from_one.ensures);
+pub returns-in-Grant : goal.returns-in-Grant
+returns-in-Grant c = record {
+  key = key_at c.args.loaded.now c.args.wrong table.Grant c.in-Some.place (key.Grant c.place_from_one.result) (sym c.table.ensures ∙ c.in-Grant.is) (sym c.place.ensures ∙ c.in-Some.is) (c.in-Some.place, refl, ap key.Grant c.place_from_one.ensures);
   memory = tt;
 }
 

@@ -3,7 +3,7 @@ use Rattle.std.proofs.lemmas.Option.{slice_get-get_or, slice_get_past}
 use Rattle.wu_loader.specs.Classing.{numbers, numbers_classed}
 use Rattle.wu_loader.specs.Whole.{DiffersAt}
 use Rattle.wu_loader.specs.declared.rows.Classed.{Classed}
-use Rattle.wu_loader.proofs.DealLemmas.{no_items}
+use Rattle.std.proofs.lemmas.List.{nil_from_length}
 use Rattle.wu_loader.proofs.ClassLemmas.{differs_from, never_past, not_classed}
 use Rattle.wu_loader.proofs.WholeLemmas.{lists_differ}
 use Rattle.wu_loader.proofs.classes.with_classes.Goals.{in_default-via-in-Some-get+else-one-workunit, in_default-via-in_default}
@@ -44,7 +44,7 @@ returns-then-n-classes-clause-told c =
     let classed = c.loop-workunit.classed.items in
     let n = c.len-n-2.result in
     let ok = c.loop-workunit.workunit-iterator.rest.ok in let len = c.in-None.ensures.steps in
-    let none : c.loop-workunit.workunit-iterator.rest.items ≡ [] = no_items _ (sym ok.0 ∙ len.0) in
+    let none : c.loop-workunit.workunit-iterator.rest.items ≡ [] = nil_from_length _ (sym ok.0 ∙ len.0) in
     let stands : c.loop-workunit.yielded ++ [] ≡ c.args.workunits.items = subst (λ (left : List Workunit). c.loop-workunit.yielded ++ left ≡ c.args.workunits.items) none so_far.0 in
     let long : n ≡ length classed = search rules in
     let more : n < length classes = search rules in

@@ -3,7 +3,8 @@ use Rattle.std.proofs.lemmas.Bool.Decides.{nat_tests}
 use Rattle.std.proofs.lemmas.List.{length-append}
 use Rattle.wu_loader.specs.Dealing.{placed_of}
 use Rattle.wu_loader.proofs.WholeLemmas.{handed_memory}
-use Rattle.wu_loader.proofs.DealLemmas.{no_items, deals_all, deals_left, deals_more, deals_none, first_undealt, IsDealing}
+use Rattle.wu_loader.proofs.DealLemmas.{deals_all, deals_left, deals_more, deals_none, first_undealt, IsDealing}
+use Rattle.std.proofs.lemmas.List.{nil_from_length}
 use Rattle.wu_loader.proofs.dealing.deal.Goals as goal
 
 pub loop-workunit-init : goal.loop-workunit-init
@@ -29,15 +30,15 @@ returns-in_err-push-clause-none c = handed_memory c.from_residual-in_err-push.re
 pub returns-then-is_empty-clause-dealt : goal.returns-then-is_empty-clause-dealt
 returns-then-is_empty-clause-dealt c =
     let ok = c.loop-workunit.workunit-iterator.rest.ok in let len = c.in-None.ensures.steps in
-    let none : c.loop-workunit.workunit-iterator.rest.items ≡ [] = no_items _ (sym ok.0 ∙ len.0) in
+    let none : c.loop-workunit.workunit-iterator.rest.items ≡ [] = nil_from_length _ (sym ok.0 ∙ len.0) in
     let so_far = subst (λ (rest : List Workunit). IsDealing c.args.workunits.items c.args.placed.items c.loop-workunit.yielded rest c.loop-workunit.dealt.items c.loop-workunit.left.items) none c.loop-workunit.invariant in
     let empty : length c.loop-workunit.left.items ≡ 0 = grind (arith, nat_tests, c.if-is_empty.ensures) in
-    deals_all _ _ _ _ _ so_far (no_items _ empty)
+    deals_all _ _ _ _ _ so_far (nil_from_length _ empty)
 
 pub returns-clause-none : goal.returns-clause-none
 returns-clause-none c =
     let ok = c.loop-workunit.workunit-iterator.rest.ok in let len = c.in-None.ensures.steps in
-    let none : c.loop-workunit.workunit-iterator.rest.items ≡ [] = no_items _ (sym ok.0 ∙ len.0) in
+    let none : c.loop-workunit.workunit-iterator.rest.items ≡ [] = nil_from_length _ (sym ok.0 ∙ len.0) in
     let so_far = subst (λ (rest : List Workunit). IsDealing c.args.workunits.items c.args.placed.items c.loop-workunit.yielded rest c.loop-workunit.dealt.items c.loop-workunit.left.items) none c.loop-workunit.invariant in
     let some : c.loop-workunit.left.items ≢ [] = search rules in
     deals_left _ _ _ _ _ so_far some
@@ -54,7 +55,7 @@ returns-in_err-push-clause-told c = handed_memory c.from_residual-in_err-push.re
 pub returns-clause-told : goal.returns-clause-told
 returns-clause-told c =
     let ok = c.loop-workunit.workunit-iterator.rest.ok in let len = c.in-None.ensures.steps in
-    let none : c.loop-workunit.workunit-iterator.rest.items ≡ [] = no_items _ (sym ok.0 ∙ len.0) in
+    let none : c.loop-workunit.workunit-iterator.rest.items ≡ [] = nil_from_length _ (sym ok.0 ∙ len.0) in
     let so_far = subst (λ (rest : List Workunit). IsDealing c.args.workunits.items c.args.placed.items c.loop-workunit.yielded rest c.loop-workunit.dealt.items c.loop-workunit.left.items) none c.loop-workunit.invariant in
     let some : c.loop-workunit.left.items ≢ [] = search rules in
     let a : length (flat_map placed_of c.loop-workunit.dealt.items ++ c.loop-workunit.left.items) ≡ length c.args.placed.items = ap (λ ps. length ps) so_far.all in

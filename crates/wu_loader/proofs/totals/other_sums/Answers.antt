@@ -1,6 +1,6 @@
 use Rattle.wu_schema.proofs.Words.{ℕ}
 use Rattle.wu_loader.specs.Questions.{ShowsTable}
-use Rattle.wu_loader.specs.declared.finding.LoadedTable.TheVariants as table
+use Rattle.wu_schema.specs.declared.table.ProjectTable.TheVariants as the_table
 use Rattle.wu_loader.proofs.LookLemmas.{looked, looks_ended, looks_fault, looks_made, looks_memory, looks_next, HasLooked}
 use Rattle.wu_loader.proofs.TotalLemmas.{shows_found}
 use Rattle.wu_loader.proofs.totals.other_sums.Given
@@ -16,7 +16,7 @@ returns-in_err-grants g c version =
     looks_ended version g.S.Store c.args.conn.now c.rows_of.new.conn c.rows_of-2.new.conn _ (looked version g.S.Store c.args.conn.now c.rows_of.new.conn c.in_ok-hosts.hosts _ (c.in_ok-hosts.ensures version tt)) c.in_err-grants.field-0.0 _ _ (c.in_err-grants.ensures version tt) c.from_residual-in_err-grants.result c.from_residual-in_err-grants.ensures.1
 
 -- both tables were read
-read : (g : Given.Over) (c : After-sums_from g) (version : ℕ) → HasLooked version g.S.Store c.args.conn.now c.rows_of-2.new.conn (λ db trees. ShowsTable table.Host db.trees trees c.in_ok-hosts.hosts.items × ShowsTable table.CreditGrant db.trees trees c.in_ok-grants.grants.items)
+read : (g : Given.Over) (c : After-sums_from g) (version : ℕ) → HasLooked version g.S.Store c.args.conn.now c.rows_of-2.new.conn (λ db trees. ShowsTable the_table.Host db.trees trees c.in_ok-hosts.hosts.items × ShowsTable the_table.Grant db.trees trees c.in_ok-grants.grants.items)
 read g c version =
     looks_next version g.S.Store c.args.conn.now c.rows_of.new.conn c.rows_of-2.new.conn _ (looked version g.S.Store c.args.conn.now c.rows_of.new.conn c.in_ok-hosts.hosts _ (c.in_ok-hosts.ensures version tt)) c.in_ok-grants.grants _ (c.in_ok-grants.ensures version tt)
 

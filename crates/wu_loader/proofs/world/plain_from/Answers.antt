@@ -7,7 +7,7 @@ use Rattle.wu_loader.specs.Whole.{rows_of, AreOfValues, IsNoRow}
 use Rattle.wu_loader.specs.Worlds.{project_of}
 use Rattle.wu_loader.specs.First.{AreRightBefore}
 use Rattle.wu_loader.specs.Wrongs.{IsWrongHostRow, IsWrongProject}
-use Rattle.wu_loader.specs.declared.finding.LoadedTable.TheVariants as table
+use Rattle.wu_schema.specs.declared.table.ProjectTable.TheVariants as the_table
 use Rattle.wu_loader.proofs.RowLemmas.{one_grant}
 use Rattle.wu_loader.proofs.WholeLemmas.{handed, no_rows, none_permuted, one_rows, rows_plain}
 use Rattle.wu_loader.proofs.FirstLemmas.{first_plain, more_before, none_before}
@@ -65,34 +65,34 @@ before_works : (c : In_ok-project) → AreRightBefore c.args.version c.args.rows
 before_works c =
     let it = c.in_ok-project in
     let rows = sym c.deref.ensures.value ∙ it.ensures.project in
-    more_before c.args.version c.args.rows table.Project (record { project = it.project; stored = it.ensures.stored; is = it.ensures.version; rows_are = rows }) (none_before c.args.version c.args.rows)
+    more_before c.args.version c.args.rows the_table.Project (record { project = it.project; stored = it.ensures.stored; is = it.ensures.version; rows_are = rows }) (none_before c.args.version c.args.rows)
 
 before_grants : (c : In_ok-workunits) → AreRightBefore c.args.version c.args.rows 1 → AreRightBefore c.args.version c.args.rows 3
 before_grants c so_far =
     let it = c.in_ok-workunits.ensures in
-    let works = more_before c.args.version c.args.rows table.Workunit it.workunits so_far in
-    more_before c.args.version c.args.rows table.Result it.results works
+    let works = more_before c.args.version c.args.rows the_table.Workunit it.workunits so_far in
+    more_before c.args.version c.args.rows the_table.Result it.results works
 
 before_hosts : (c : In_ok-grants) → AreRightBefore c.args.version c.args.rows 3 → AreRightBefore c.args.version c.args.rows 4
 before_hosts c so_far =
     let it = c.in_ok-grants in
-    more_before c.args.version c.args.rows table.CreditGrant (values_as grant_row IsStoredGrant it.grants.items c.deref-2.ensures.value it.ensures.each it.ensures.same) so_far
+    more_before c.args.version c.args.rows the_table.Grant (values_as grant_row IsStoredGrant it.grants.items c.deref-2.ensures.value it.ensures.each it.ensures.same) so_far
 
 before_archived : (c : In_ok-know_hosts) → AreRightBefore c.args.version c.args.rows 4 → AreRightBefore c.args.version c.args.rows 5
 before_archived c so_far =
     let it = c.in_ok-grants in
     let rows = sym c.deref-2.ensures.value ∙ it.ensures.same in
     let hosts = rw (c.deref-3.ensures.value, c.deref-4.ensures.value) at c.in_ok-know_hosts.ensures.hosts in
-    more_before c.args.version c.args.rows table.Host (record { grants = it.grants.items; rows_are = rows; hosts = hosts }) so_far
+    more_before c.args.version c.args.rows the_table.Host (record { grants = it.grants.items; rows_are = rows; hosts = hosts }) so_far
 
 before_imports : (c : In_ok-archived) → AreRightBefore c.args.version c.args.rows 5 → AreRightBefore c.args.version c.args.rows 6
 before_imports c so_far =
     let it = c.in_ok-archived in
-    more_before c.args.version c.args.rows table.Archived (values_as archived_row IsStoredArchived it.archived.items c.deref-5.ensures.value it.ensures.each it.ensures.same) so_far
+    more_before c.args.version c.args.rows the_table.Archived (values_as archived_row IsStoredArchived it.archived.items c.deref-5.ensures.value it.ensures.each it.ensures.same) so_far
 
 pub returns-in_err-project-clause-told : goal.returns-in_err-project-clause-told
 returns-in_err-project-clause-told c =
-    handed c.from_residual.result c.in_err-project.field-0.0 _ _ (λ wrong it. first_plain c.args.version c.args.rows table.Project wrong (none_before c.args.version c.args.rows) it.0 (subst (λ (rs : List Row). IsWrongProject c.args.version rs wrong.place) c.deref.ensures.value it.1))
+    handed c.from_residual.result c.in_err-project.field-0.0 _ _ (λ wrong it. first_plain c.args.version c.args.rows the_table.Project wrong (none_before c.args.version c.args.rows) it.0 (subst (λ (rs : List Row). IsWrongProject c.args.version rs wrong.place) c.deref.ensures.value it.1))
     c.from_residual.ensures.1 c.in_err-project.ensures.told
 
 pub returns-in_err-workunits-clause-told : goal.returns-in_err-workunits-clause-told
@@ -101,17 +101,17 @@ returns-in_err-workunits-clause-told c =
     let v = c.args.version in
     let rows = c.args.rows in
     handed c.from_residual-in_err-workunits.result c.in_err-workunits.field-0.0 _ _ (λ wrong it. elim it [
-      | inl none ↦ first_plain v rows table.Workunit wrong before none.0 none.1
+      | inl none ↦ first_plain v rows the_table.Workunit wrong before none.0 none.1
       | inr other ↦
-          let works = more_before v rows table.Workunit other.0 before in
-          first_plain v rows table.Result wrong works other.1.0 other.1.1
+          let works = more_before v rows the_table.Workunit other.0 before in
+          first_plain v rows the_table.Result wrong works other.1.0 other.1.1
     ]) c.from_residual-in_err-workunits.ensures.1 c.in_err-workunits.ensures.told
 
 pub returns-in_err-grants-clause-told : goal.returns-in_err-grants-clause-told
 returns-in_err-grants-clause-told c =
     let at = goal.at.returns-in_err-grants-clause-told c in
     let before = before_grants at.In_ok-workunits (before_works at.In_ok-project) in
-    handed c.from_residual-in_err-grants.result c.in_err-grants.field-0.0 _ _ (λ wrong it. first_plain c.args.version c.args.rows table.CreditGrant wrong before it.0 (subst (λ (rs : List Row). IsNoRow grant_row IsStoredGrant rs wrong.place) c.deref-2.ensures.value it.1))
+    handed c.from_residual-in_err-grants.result c.in_err-grants.field-0.0 _ _ (λ wrong it. first_plain c.args.version c.args.rows the_table.Grant wrong before it.0 (subst (λ (rs : List Row). IsNoRow grant_row IsStoredGrant rs wrong.place) c.deref-2.ensures.value it.1))
     c.from_residual-in_err-grants.ensures.1 c.in_err-grants.ensures.none
 
 pub returns-in_err-know_hosts-clause-told : goal.returns-in_err-know_hosts-clause-told
@@ -119,7 +119,7 @@ returns-in_err-know_hosts-clause-told c =
     let at = goal.at.returns-in_err-know_hosts-clause-told c in
     let before = before_hosts at.In_ok-grants (before_grants at.In_ok-workunits (before_works at.In_ok-project)) in
     let rows = c.args.rows in
-    handed c.from_residual-in_err-know_hosts.result c.in_err-know_hosts.field-0.0 _ _ (λ wrong it. first_plain c.args.version rows table.Host wrong before it.0 (record {
+    handed c.from_residual-in_err-know_hosts.result c.in_err-know_hosts.field-0.0 _ _ (λ wrong it. first_plain c.args.version rows the_table.Host wrong before it.0 (record {
       grants = c.in_ok-grants.grants.items;
       rows_are = sym c.deref-2.ensures.value ∙ c.in_ok-grants.ensures.same;
       wrong = subst (λ (gs : List Grant). IsWrongHostRow gs rows.hosts.items wrong.place) c.deref-4.ensures.value (subst (λ (rs : List Row). IsWrongHostRow c.deref-4.result.now rs wrong.place) c.deref-3.ensures.value it.1);
@@ -129,14 +129,14 @@ pub returns-in_err-archived-clause-told : goal.returns-in_err-archived-clause-to
 returns-in_err-archived-clause-told c =
     let at = goal.at.returns-in_err-archived-clause-told c in
     let before = before_archived at.In_ok-know_hosts (before_hosts at.In_ok-grants (before_grants at.In_ok-workunits (before_works at.In_ok-project))) in
-    handed c.from_residual-in_err-archived.result c.in_err-archived.field-0.0 _ _ (λ wrong it. first_plain c.args.version c.args.rows table.Archived wrong before it.0 (subst (λ (rs : List Row). IsNoRow archived_row IsStoredArchived rs wrong.place) c.deref-5.ensures.value it.1))
+    handed c.from_residual-in_err-archived.result c.in_err-archived.field-0.0 _ _ (λ wrong it. first_plain c.args.version c.args.rows the_table.Archived wrong before it.0 (subst (λ (rs : List Row). IsNoRow archived_row IsStoredArchived rs wrong.place) c.deref-5.ensures.value it.1))
     c.from_residual-in_err-archived.ensures.1 c.in_err-archived.ensures.none
 
 pub returns-in_err-imports-clause-told : goal.returns-in_err-imports-clause-told
 returns-in_err-imports-clause-told c =
     let at = goal.at.returns-in_err-imports-clause-told c in
     let before = before_imports at.In_ok-archived (before_archived at.In_ok-know_hosts (before_hosts at.In_ok-grants (before_grants at.In_ok-workunits (before_works at.In_ok-project)))) in
-    handed c.from_residual-in_err-imports.result c.in_err-imports.field-0.0 _ _ (λ wrong it. first_plain c.args.version c.args.rows table.Import wrong before it.0 (subst (λ (rs : List Row). IsNoRow (λ _. import_cells) IsStoredImport rs wrong.place) c.deref-6.ensures.value it.1))
+    handed c.from_residual-in_err-imports.result c.in_err-imports.field-0.0 _ _ (λ wrong it. first_plain c.args.version c.args.rows the_table.Import wrong before it.0 (subst (λ (rs : List Row). IsNoRow (λ _. import_cells) IsStoredImport rs wrong.place) c.deref-6.ensures.value it.1))
     c.from_residual-in_err-imports.ensures.1 c.in_err-imports.ensures.none
 
 pub returns-clause-right : goal.returns-clause-right
@@ -144,4 +144,4 @@ returns-clause-right c =
     let at = goal.at.returns-clause-right c in
     let before = before_imports at.In_ok-archived (before_archived at.In_ok-know_hosts (before_hosts at.In_ok-grants (before_grants at.In_ok-workunits (before_works at.In_ok-project)))) in
     let it = c.in_ok-imports in
-    more_before c.args.version c.args.rows table.Import (values_as (λ _. import_cells) IsStoredImport it.imports.items c.deref-6.ensures.value it.ensures.each it.ensures.same) before
+    more_before c.args.version c.args.rows the_table.Import (values_as (λ _. import_cells) IsStoredImport it.imports.items c.deref-6.ensures.value it.ensures.each it.ensures.same) before

@@ -1,7 +1,7 @@
 use Rattle.wu_schema.proofs.Words.{ap, inl, inr, length, refl, rules, slice_get, subst, sym, ◌≢◌, ◌≤◌}
 use Rattle.wu_loader.specs.Whole.{IsIn, UnlessMemory}
 use Rattle.wu_loader.specs.Wrongs.{IsWrongProject}
-use Rattle.wu_loader.specs.declared.finding.LoadedTable.TheVariants as table
+use Rattle.wu_schema.specs.declared.table.ProjectTable.TheVariants as the_table
 use Rattle.wu_loader.specs.declared.finding.NoWorld.{NoWorld}
 use Rattle.wu_loader.proofs.WholeLemmas.{handed, lacks_project, one_project}
 use Rattle.wu_loader.proofs.world.project_from.Goals as goal
@@ -20,7 +20,7 @@ returns-then-project-version-clause-told c =
     let first = c.in_ok-project.ensures.first in
     let few : length rows ≤ 1 = c.if-rows-gt1.false in
     let other : c.in_ok-project.project.version ≢ c.args.version = search rules in
-    subst (λ (reason : NoWorld). UnlessMemory reason (IsIn table.Project (IsWrongProject c.args.version rows))) (sym c.wrong_project-then-project-version.ensures) (
+    subst (λ (reason : NoWorld). UnlessMemory reason (IsIn the_table.Project (IsWrongProject c.args.version rows))) (sym c.wrong_project-then-project-version.ensures) (
       refl,
       inr (record {
         first = refl;

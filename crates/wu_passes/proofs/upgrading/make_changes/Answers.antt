@@ -2,7 +2,8 @@ use Rattle.std.proofs.Common.{rules, ◌≡◌, ◌==◌, ◌∙◌, arith, inl,
 use Rattle.std.proofs.lemmas.Bool.Decides.{nat_tests}
 use Rattle.sqlite.specs.Held.{state}
 use Rattle.wu_machine.specs.Requests.{AskUpgrade}
-use Rattle.wu_passes.proofs.StandingLemmas.{from_cut, from_done, from_nothing, no_changes}
+use Rattle.wu_passes.proofs.StandingLemmas.{from_cut, from_done, from_nothing}
+use Rattle.std.proofs.lemmas.List.{nil_from_length}
 use Rattle.wu_passes.proofs.UpgradeLemmas.{back_undone, survives_same}
 use Rattle.wu_passes.proofs.upgrading.make_changes.Goals as goal
 
@@ -10,7 +11,7 @@ pub returns-then-is_empty-clause-made : goal.returns-then-is_empty-clause-made
 returns-then-is_empty-clause-made g c clean world answer stands shows plans =
     let is : (length c.args.changes.now == 0) ≡ true = sym c.is_empty.ensures ∙ c.if-is_empty.true in
     let s = state g.S.Store c.args.conn.now in
-    (from_nothing s s world AskUpgrade answer c.args.changes.now true (no_changes c.args.changes.now (grind (arith, nat_tests))) refl plans).1
+    (from_nothing s s world AskUpgrade answer c.args.changes.now true (nil_from_length c.args.changes.now (grind (arith, nat_tests))) refl plans).1
 
 pub returns-in-Ok-clause-made : goal.returns-in-Ok-clause-made
 returns-in-Ok-clause-made g c clean world answer stands shows plans =

@@ -9,6 +9,7 @@ use Rattle.wu_store.specs.StandsFor.{StandsFor, marked}
 use Rattle.wu_store.proofs.SpareLemmas.{project_there, there_in}
 use Rattle.wu_store.proofs.ChangingLemmas.{makes_one}
 use Rattle.wu_store.proofs.changes.make.Goals as goal
+use Rattle.wu_schema.specs.declared.table.ProjectTable.TheVariants as the_table
 
 pub returns-in-Add-clause-makes : goal.returns-in-Add-clause-makes
 returns-in-Add-clause-makes g c clean =
@@ -26,7 +27,7 @@ pub returns-in-Remove-clause-makes : goal.returns-in-Remove-clause-makes
 returns-in-Remove-clause-makes g c clean =
     makes_one c.delete_workunit.result _ _ _ _ c.in-Remove.is
     (ok_both c.delete_workunit.result _ _ _ (λ deletes goes world stands right. stands_without _ _ world c.in-Remove.number stands deletes goes) (c.delete_workunit.ensures.deletes clean) (c.delete_workunit.ensures.queue clean))
-    (ok_on c.delete_workunit.result _ _ (λ spares world stands right. (spares ((stands.refines.trees.workunit, stands.refines.tables.workunit), tt)).1) (c.delete_workunit.ensures.spares clean))
+    (ok_on c.delete_workunit.result _ _ (λ spares world stands right. (spares (((stands.refines.trees the_table.Workunit), (stands.refines.tables.each the_table.Workunit tt)), tt)).1) (c.delete_workunit.ensures.spares clean))
 
 pub returns-in-Grants-clause-makes : goal.returns-in-Grants-clause-makes
 returns-in-Grants-clause-makes g c clean =
@@ -43,7 +44,7 @@ returns-in-Archive-clause-makes g c clean =
     makes_one c.insert_archived.result _ _ _ _ c.in-Archive.is
     (ok_both c.insert_archived.result _ _ _ (λ puts keeps world stands right.
     stands_kept _ _ world (with_archived c.in-Archive.archived world) stands (λ queued. queued) refl (puts world stands.refines right.0) keeps) (c.insert_archived.ensures.puts clean) (c.insert_archived.ensures.queue clean))
-    (ok_on c.insert_archived.result _ _ (λ spares world stands right. (spares ((stands.refines.trees.archived, stands.refines.tables.archived), tt)).1) (c.insert_archived.ensures.spares clean))
+    (ok_on c.insert_archived.result _ _ (λ spares world stands right. (spares (((stands.refines.trees the_table.Archived), (stands.refines.tables.each the_table.Archived tt)), tt)).1) (c.insert_archived.ensures.spares clean))
 
 pub returns-in-Next-clause-makes : goal.returns-in-Next-clause-makes
 returns-in-Next-clause-makes g c clean =
@@ -57,7 +58,7 @@ returns-in-Keep-clause-makes g c clean =
     makes_one c.insert_import.result _ _ _ _ c.in-Keep.is
     (ok_both c.insert_import.result _ _ _ (λ puts keeps world stands right.
     stands_kept _ _ world (with_import (import_of_change c.in-Keep.import) world) stands (λ queued. queued) refl (puts world stands.refines right.0) keeps) (c.insert_import.ensures.puts clean) (c.insert_import.ensures.queue clean))
-    (ok_on c.insert_import.result _ _ (λ spares world stands right. (spares ((stands.refines.trees.import, stands.refines.tables.import), tt)).1) (c.insert_import.ensures.spares clean))
+    (ok_on c.insert_import.result _ _ (λ spares world stands right. (spares (((stands.refines.trees the_table.Import), (stands.refines.tables.each the_table.Import tt)), tt)).1) (c.insert_import.ensures.spares clean))
 
 pub returns-in-Class-clause-makes : goal.returns-in-Class-clause-makes
 returns-in-Class-clause-makes g c clean =
@@ -66,7 +67,7 @@ returns-in-Class-clause-makes g c clean =
       refines = sets.stands world right.0 stands.refines;
       queue = λ queued. sets.queue world (marked world) right.0 stands.refines (stands.queue queued);
     }) (c.put_host_class.ensures.sets clean))
-    (ok_on c.put_host_class.result _ _ (λ spares world stands right. (spares ((stands.refines.trees.host_class, stands.refines.tables.host_class right.0), tt)).1) (c.put_host_class.ensures.spares clean))
+    (ok_on c.put_host_class.result _ _ (λ spares world stands right. (spares (((stands.refines.trees the_table.HostClass), stands.refines.tables.each the_table.HostClass right.0), tt)).1) (c.put_host_class.ensures.spares clean))
 
 pub returns-in-Upgrade-clause-makes : goal.returns-in-Upgrade-clause-makes
 returns-in-Upgrade-clause-makes g c clean =

@@ -1,6 +1,6 @@
 use Rattle.wu_schema.proofs.Words.{Text, [], ap, bound_value, number, refl, state, sym, ◌∙◌, ◌∷◌, ◌≡◌}
 use Rattle.wu_core.specs.Storable.{IsClass}
-use Rattle.wu_schema.proofs.Parts.{HostClasses}
+use Rattle.wu_schema.specs.declared.table.ProjectTable.TheVariants as the_table
 use Rattle.wu_schema.proofs.InsertEffect.{also, no_more}
 use Rattle.wu_schema.proofs.ReadLemmas.{if_ok}
 use Rattle.wu_store.specs.Classes.{class_named}
@@ -15,7 +15,7 @@ returns-in_err-row g c =
     let host = c.args.host.now in
     let given = also (ap bound_value c.params-to_sql.ensures ∙ ap (λ t. Text t) c.as_str.ensures) no_more in
     let same = c.from_residual.ensures.1 in
-    let it = asked_row g.S.Store (class_question HostClasses (λ version known. known) host_asked host_fits (Text host ∷ []) refl (λ _. refl)) c.args.conn.now c.ask_row.new.conn _ given (row_named host)
+    let it = asked_row g.S.Store (class_question the_table.HostClass (λ version known. known) host_asked host_fits (Text host ∷ []) refl (λ _. refl)) c.args.conn.now c.ask_row.new.conn _ given (row_named host)
     (host_found (state g.S.Store c.args.conn.now) (state g.S.Store c.ask_row.new.conn) host) _ q.asks q.opens q.shows q.fails q.told in
     record {
       opens = opens_handed _ _ same g.S.Store c.ask_row.new.conn it.opens;
@@ -29,7 +29,7 @@ returns-in-Some g c =
     let given = also (ap bound_value c.params-to_sql.ensures ∙ ap (λ t. Text t) c.as_str.ensures) no_more in
     let r = c.class_at.result in
     let reads = c.class_at.ensures in
-    let it = asked_row g.S.Store (class_question HostClasses (λ version known. known) host_asked host_fits (Text host ∷ []) refl (λ _. refl)) c.args.conn.now c.ask_row.new.conn _ given (row_named host)
+    let it = asked_row g.S.Store (class_question the_table.HostClass (λ version known. known) host_asked host_fits (Text host ∷ []) refl (λ _. refl)) c.args.conn.now c.ask_row.new.conn _ given (row_named host)
     (host_found (state g.S.Store c.args.conn.now) (state g.S.Store c.ask_row.new.conn) host) _ q.asks q.opens q.shows q.fails q.told in
     record {
       opens = opens_made g.S.Store c.ask_row.new.conn _ it.opens;
@@ -41,7 +41,7 @@ returns-in-None g c =
     let q = c.in_ok-row.ensures in
     let host = c.args.host.now in
     let given = also (ap bound_value c.params-to_sql.ensures ∙ ap (λ t. Text t) c.as_str.ensures) no_more in
-    let it = asked_row g.S.Store (class_question HostClasses (λ version known. known) host_asked host_fits (Text host ∷ []) refl (λ _. refl)) c.args.conn.now c.ask_row.new.conn _ given (row_named host)
+    let it = asked_row g.S.Store (class_question the_table.HostClass (λ version known. known) host_asked host_fits (Text host ∷ []) refl (λ _. refl)) c.args.conn.now c.ask_row.new.conn _ given (row_named host)
     (host_found (state g.S.Store c.args.conn.now) (state g.S.Store c.ask_row.new.conn) host) _ q.asks q.opens q.shows q.fails q.told in
     record {
       opens = it.opens;

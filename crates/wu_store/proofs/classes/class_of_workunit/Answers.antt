@@ -1,7 +1,7 @@
 use Rattle.wu_schema.proofs.Words.{None, Some, [], ap, arith, number, refl, state, subst, sym, ◌∙◌, ◌∷◌, ◌≡◌}
 use Rattle.std.specs.Prelude.{IfSome}
 use Rattle.wu_core.specs.Storable.{IsClass}
-use Rattle.wu_schema.proofs.Parts.{WorkClasses}
+use Rattle.wu_schema.specs.declared.table.ProjectTable.TheVariants as the_table
 use Rattle.wu_schema.proofs.InsertEffect.{also, no_more}
 use Rattle.wu_store.proofs.AskLemmas.{asked_row, fault_read, handed_on, never_broken, nothing_handed, opens_handed, opens_made, read_handed, reads_also, reads_handed, reads_made, reads_unkeyed}
 use Rattle.wu_store.proofs.ChangeLemmas.{sent_number}
@@ -24,7 +24,7 @@ returns-in_err-row g c =
     let n = c.args.number in
     let given = also (sent_number n c.params-to_sql.ensures c.in_ok-key.ensures.value c.in_ok-key.ensures.within) no_more in
     let same = c.from_residual-in_err-row.ensures.1 in
-    let it = asked_row g.S.Store (class_question WorkClasses (λ version known. known) class_asked class_fits (number n ∷ []) refl (λ _. refl)) c.args.conn.now c.ask_row.new.conn _ given (row_classed n)
+    let it = asked_row g.S.Store (class_question the_table.WorkunitClass (λ version known. known) class_asked class_fits (number n ∷ []) refl (λ _. refl)) c.args.conn.now c.ask_row.new.conn _ given (row_classed n)
     (class_found (state g.S.Store c.args.conn.now) (state g.S.Store c.ask_row.new.conn) n) _ q.asks q.opens q.shows q.fails q.told in
     record {
       opens = λ low. opens_handed _ _ same g.S.Store c.ask_row.new.conn it.opens;
@@ -39,7 +39,7 @@ returns-in_err-class_at-in-Some g c =
     let same = c.from_residual-in_err-class_at-in-Some.ensures.1 in
     let reads = c.in_err-class_at-in-Some.ensures in
     let refused = read_handed _ _ same reads.refused in
-    let it = asked_row g.S.Store (class_question WorkClasses (λ version known. known) class_asked class_fits (number n ∷ []) refl (λ _. refl)) c.args.conn.now c.ask_row.new.conn _ given (row_classed n)
+    let it = asked_row g.S.Store (class_question the_table.WorkunitClass (λ version known. known) class_asked class_fits (number n ∷ []) refl (λ _. refl)) c.args.conn.now c.ask_row.new.conn _ given (row_classed n)
     (class_found (state g.S.Store c.args.conn.now) (state g.S.Store c.ask_row.new.conn) n) _ q.asks q.opens q.shows q.fails q.told in
     record {
       opens = λ low. opens_made g.S.Store c.ask_row.new.conn _ it.opens;
@@ -55,7 +55,7 @@ returns-in_ok-class_at-in-Some g c =
     let given = also (sent_number n c.params-to_sql.ensures c.in_ok-key.ensures.value c.in_ok-key.ensures.within) no_more in
     let reads = c.in_ok-class_at-in-Some.ensures in
     let x = c.in_ok-class_at-in-Some.field-0 in
-    let it = asked_row g.S.Store (class_question WorkClasses (λ version known. known) class_asked class_fits (number n ∷ []) refl (λ _. refl)) c.args.conn.now c.ask_row.new.conn _ given (row_classed n)
+    let it = asked_row g.S.Store (class_question the_table.WorkunitClass (λ version known. known) class_asked class_fits (number n ∷ []) refl (λ _. refl)) c.args.conn.now c.ask_row.new.conn _ given (row_classed n)
     (class_found (state g.S.Store c.args.conn.now) (state g.S.Store c.ask_row.new.conn) n) _ q.asks q.opens q.shows q.fails q.told in
     record {
       opens = λ low. it.opens;
@@ -71,7 +71,7 @@ returns-in-None g c =
     let q = c.in_ok-row.ensures in
     let n = c.args.number in
     let given = also (sent_number n c.params-to_sql.ensures c.in_ok-key.ensures.value c.in_ok-key.ensures.within) no_more in
-    let it = asked_row g.S.Store (class_question WorkClasses (λ version known. known) class_asked class_fits (number n ∷ []) refl (λ _. refl)) c.args.conn.now c.ask_row.new.conn _ given (row_classed n)
+    let it = asked_row g.S.Store (class_question the_table.WorkunitClass (λ version known. known) class_asked class_fits (number n ∷ []) refl (λ _. refl)) c.args.conn.now c.ask_row.new.conn _ given (row_classed n)
     (class_found (state g.S.Store c.args.conn.now) (state g.S.Store c.ask_row.new.conn) n) _ q.asks q.opens q.shows q.fails q.told in
     record {
       opens = λ low. it.opens;

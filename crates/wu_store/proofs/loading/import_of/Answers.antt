@@ -1,5 +1,5 @@
 use Rattle.wu_schema.proofs.Words.{None, Ok, Text, [], ap, bound_value, import_kind_code, number, refl, state, sym, ◌∙◌, ◌∷◌, ◌≡◌}
-use Rattle.wu_schema.proofs.Parts.{Imports}
+use Rattle.wu_schema.specs.declared.table.ProjectTable.TheVariants as the_table
 use Rattle.wu_schema.proofs.InsertEffect.{also, no_more}
 use Rattle.wu_store.specs.Answers.{kept_of}
 use Rattle.wu_store.proofs.SelectTexts.{import_asked, import_fits}
@@ -13,7 +13,7 @@ pub returns-in_err-rows : goal.returns-in_err-rows
 returns-in_err-rows g c =
     let q = c.in_err-rows.ensures in
     let same = c.from_residual.ensures.1 in
-    let it = asked_all g.S.Store (question Imports (λ _. tt) import_asked import_fits (number (import_kind_code c.args.kind) ∷ Text c.args.name.now ∷ []) refl (λ _. refl)) c.args.conn.now c.query.new.conn _
+    let it = asked_all g.S.Store (question the_table.Import (λ _. tt) import_asked import_fits (number (import_kind_code c.args.kind) ∷ Text c.args.name.now ∷ []) refl (λ _. refl)) c.args.conn.now c.query.new.conn _
     (also (ap bound_value c.params-to_sql.ensures ∙ ap number c.code.ensures) (also (ap bound_value c.params-to_sql-2.ensures ∙ ap (λ t. Text t) c.as_str.ensures) no_more)) (λ rows world. rows ≡ kept_of c.args.kind c.args.name.now world)
     (λ rows h world s. import_found (state g.S.Store c.args.conn.now) (state g.S.Store c.query.new.conn) world s c.args.kind c.args.name.now rows h) _ q.asks q.opens q.shows q.fails q.told in
     record {
@@ -24,7 +24,7 @@ returns-in_err-rows g c =
 pub returns-in_err-import_from-in-Some : goal.returns-in_err-import_from-in-Some
 returns-in_err-import_from-in-Some g c =
     let q = c.in_ok-rows.ensures in
-    let asked = asked_all g.S.Store (question Imports (λ _. tt) import_asked import_fits (number (import_kind_code c.args.kind) ∷ Text c.args.name.now ∷ []) refl (λ _. refl)) c.args.conn.now c.query.new.conn _
+    let asked = asked_all g.S.Store (question the_table.Import (λ _. tt) import_asked import_fits (number (import_kind_code c.args.kind) ∷ Text c.args.name.now ∷ []) refl (λ _. refl)) c.args.conn.now c.query.new.conn _
     (also (ap bound_value c.params-to_sql.ensures ∙ ap number c.code.ensures) (also (ap bound_value c.params-to_sql-2.ensures ∙ ap (λ t. Text t) c.as_str.ensures) no_more)) (λ rows world. rows ≡ kept_of c.args.kind c.args.name.now world)
     (λ rows h world s. import_found (state g.S.Store c.args.conn.now) (state g.S.Store c.query.new.conn) world s c.args.kind c.args.name.now rows h) (Ok c.in_ok-rows.rows) q.asks q.opens q.shows q.fails q.told in
     let same = c.from_residual-in_err-import_from-in-Some.ensures.1 in
@@ -39,7 +39,7 @@ returns-in_err-import_from-in-Some g c =
 pub returns-in-Some : goal.returns-in-Some
 returns-in-Some g c =
     let q = c.in_ok-rows.ensures in
-    let asked = asked_all g.S.Store (question Imports (λ _. tt) import_asked import_fits (number (import_kind_code c.args.kind) ∷ Text c.args.name.now ∷ []) refl (λ _. refl)) c.args.conn.now c.query.new.conn _
+    let asked = asked_all g.S.Store (question the_table.Import (λ _. tt) import_asked import_fits (number (import_kind_code c.args.kind) ∷ Text c.args.name.now ∷ []) refl (λ _. refl)) c.args.conn.now c.query.new.conn _
     (also (ap bound_value c.params-to_sql.ensures ∙ ap number c.code.ensures) (also (ap bound_value c.params-to_sql-2.ensures ∙ ap (λ t. Text t) c.as_str.ensures) no_more)) (λ rows world. rows ≡ kept_of c.args.kind c.args.name.now world)
     (λ rows h world s. import_found (state g.S.Store c.args.conn.now) (state g.S.Store c.query.new.conn) world s c.args.kind c.args.name.now rows h) (Ok c.in_ok-rows.rows) q.asks q.opens q.shows q.fails q.told in
     record {
@@ -52,7 +52,7 @@ returns-in-Some g c =
 pub returns : goal.returns
 returns g c =
     let q = c.in_ok-rows.ensures in
-    let asked = asked_all g.S.Store (question Imports (λ _. tt) import_asked import_fits (number (import_kind_code c.args.kind) ∷ Text c.args.name.now ∷ []) refl (λ _. refl)) c.args.conn.now c.query.new.conn _
+    let asked = asked_all g.S.Store (question the_table.Import (λ _. tt) import_asked import_fits (number (import_kind_code c.args.kind) ∷ Text c.args.name.now ∷ []) refl (λ _. refl)) c.args.conn.now c.query.new.conn _
     (also (ap bound_value c.params-to_sql.ensures ∙ ap number c.code.ensures) (also (ap bound_value c.params-to_sql-2.ensures ∙ ap (λ t. Text t) c.as_str.ensures) no_more)) (λ rows world. rows ≡ kept_of c.args.kind c.args.name.now world)
     (λ rows h world s. import_found (state g.S.Store c.args.conn.now) (state g.S.Store c.query.new.conn) world s c.args.kind c.args.name.now rows h) (Ok c.in_ok-rows.rows) q.asks q.opens q.shows q.fails q.told in
     record {

@@ -1,5 +1,5 @@
 use Rattle.wu_schema.proofs.Words.{Ok, [], number, refl, state, ◌∙◌, ◌∷◌, ◌≡◌}
-use Rattle.wu_schema.proofs.Parts.{Instances}
+use Rattle.wu_schema.specs.declared.table.ProjectTable.TheVariants as the_table
 use Rattle.wu_schema.proofs.InsertEffect.{also, no_more}
 use Rattle.wu_store.specs.Answers.{instance_rows_of}
 use Rattle.wu_store.proofs.AskLemmas.{asked_all, fault_read, never_broken, nothing_handed, question, reads_also, reads_handed, reads_unkeyed}
@@ -22,7 +22,7 @@ pub returns-in_err-rows : goal.returns-in_err-rows
 returns-in_err-rows g c =
     let q = c.in_err-rows.ensures in
     let same = c.from_residual-in_err-rows.ensures.1 in
-    let it = asked_all g.S.Store (question Instances (λ _. tt) instances_asked instances_fits (number c.args.workunit ∷ []) refl (λ _. refl)) c.args.conn.now c.query.new.conn _ (also (sent_number c.args.workunit c.params-to_sql.ensures c.in_ok-key.ensures.value c.in_ok-key.ensures.within) no_more) (λ rows world. rows ≡ instance_rows_of c.args.workunit world)
+    let it = asked_all g.S.Store (question the_table.Result (λ _. tt) instances_asked instances_fits (number c.args.workunit ∷ []) refl (λ _. refl)) c.args.conn.now c.query.new.conn _ (also (sent_number c.args.workunit c.params-to_sql.ensures c.in_ok-key.ensures.value c.in_ok-key.ensures.within) no_more) (λ rows world. rows ≡ instance_rows_of c.args.workunit world)
     (λ rows h world s. answers.instances_found (state g.S.Store c.args.conn.now) (state g.S.Store c.query.new.conn) world s c.args.workunit rows h) _ q.asks q.opens q.shows q.fails q.told in
     record {
       stored = nothing_handed _ _ same _;
@@ -34,7 +34,7 @@ returns g c =
     let q = c.in_ok-rows.ensures in
     let r = c.instances_from.result in
     let reads = c.instances_from.ensures in
-    let it = asked_all g.S.Store (question Instances (λ _. tt) instances_asked instances_fits (number c.args.workunit ∷ []) refl (λ _. refl)) c.args.conn.now c.query.new.conn _ (also (sent_number c.args.workunit c.params-to_sql.ensures c.in_ok-key.ensures.value c.in_ok-key.ensures.within) no_more) (λ rows world. rows ≡ instance_rows_of c.args.workunit world)
+    let it = asked_all g.S.Store (question the_table.Result (λ _. tt) instances_asked instances_fits (number c.args.workunit ∷ []) refl (λ _. refl)) c.args.conn.now c.query.new.conn _ (also (sent_number c.args.workunit c.params-to_sql.ensures c.in_ok-key.ensures.value c.in_ok-key.ensures.within) no_more) (λ rows world. rows ≡ instance_rows_of c.args.workunit world)
     (λ rows h world s. answers.instances_found (state g.S.Store c.args.conn.now) (state g.S.Store c.query.new.conn) world s c.args.workunit rows h) (Ok c.in_ok-rows.rows) q.asks q.opens q.shows q.fails q.told in
     record {
       stored = instances_stored _ r reads;

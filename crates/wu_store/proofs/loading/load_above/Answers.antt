@@ -1,5 +1,5 @@
 use Rattle.wu_schema.proofs.Words.{Workunit, [], arith, number, refl, state, ◌∷◌, nat_lt}
-use Rattle.wu_schema.proofs.Parts.{Workunits}
+use Rattle.wu_schema.specs.declared.table.ProjectTable.TheVariants as the_table
 use Rattle.wu_schema.proofs.InsertEffect.{also, no_more}
 use Rattle.wu_store.specs.Answers.{row_above}
 use Rattle.wu_store.proofs.ChangeLemmas.{sent_number}
@@ -23,7 +23,7 @@ pub returns-in_err-row : goal.returns-in_err-row
 returns-in_err-row g c =
     let q = c.in_err-row.ensures in
     let same = c.from_residual-in_err-row.ensures.1 in
-    let it = asked_row g.S.Store (question Workunits (λ _. tt) above_asked above_fits (number c.args.number ∷ []) refl (λ _. refl)) c.args.conn.now c.ask_row.new.conn _ (also (sent_number c.args.number c.params-to_sql.ensures c.in_ok-key.ensures.value c.in_ok-key.ensures.within) no_more) (row_above c.args.number)
+    let it = asked_row g.S.Store (question the_table.Workunit (λ _. tt) above_asked above_fits (number c.args.number ∷ []) refl (λ _. refl)) c.args.conn.now c.ask_row.new.conn _ (also (sent_number c.args.number c.params-to_sql.ensures c.in_ok-key.ensures.value c.in_ok-key.ensures.within) no_more) (row_above c.args.number)
     (λ rows h world s. above_found (state g.S.Store c.args.conn.now) (state g.S.Store c.ask_row.new.conn) world s c.args.number rows h) _ q.asks q.opens q.shows q.fails q.told in
     record {
       opens = λ low. opens_handed _ _ same g.S.Store c.ask_row.new.conn it.opens;
@@ -34,7 +34,7 @@ returns-in_err-row g c =
 pub returns : goal.returns
 returns g c =
     let q = c.in_ok-row.ensures in
-    let it = asked_row g.S.Store (question Workunits (λ _. tt) above_asked above_fits (number c.args.number ∷ []) refl (λ _. refl)) c.args.conn.now c.ask_row.new.conn _ (also (sent_number c.args.number c.params-to_sql.ensures c.in_ok-key.ensures.value c.in_ok-key.ensures.within) no_more) (row_above c.args.number)
+    let it = asked_row g.S.Store (question the_table.Workunit (λ _. tt) above_asked above_fits (number c.args.number ∷ []) refl (λ _. refl)) c.args.conn.now c.ask_row.new.conn _ (also (sent_number c.args.number c.params-to_sql.ensures c.in_ok-key.ensures.value c.in_ok-key.ensures.within) no_more) (row_above c.args.number)
     (λ rows h world s. above_found (state g.S.Store c.args.conn.now) (state g.S.Store c.ask_row.new.conn) world s c.args.number rows h) _ q.asks q.opens q.shows q.fails q.told in
     record {
       opens = λ low. opens_then g.S.Store c.ask_row.new.conn c.loaded.new.conn it.opens c.loaded.result c.loaded.ensures.reads.asks;

@@ -1,5 +1,5 @@
 use Rattle.wu_schema.proofs.Words.{Text, Workunit, [], ap, bound_value, bytes_eq, refl, state, ◌∙◌, ◌∷◌}
-use Rattle.wu_schema.proofs.Parts.{Workunits}
+use Rattle.wu_schema.specs.declared.table.ProjectTable.TheVariants as the_table
 use Rattle.wu_schema.proofs.InsertEffect.{also, no_more}
 use Rattle.wu_store.specs.Answers.{row_named}
 use Rattle.wu_store.proofs.SelectTexts.{named_asked, named_fits}
@@ -12,7 +12,7 @@ pub returns-in_err-row : goal.returns-in_err-row
 returns-in_err-row g c =
     let q = c.in_err-row.ensures in
     let same = c.from_residual.ensures.1 in
-    let it = asked_row g.S.Store (question Workunits (λ _. tt) named_asked named_fits (Text c.args.name.now ∷ []) refl (λ _. refl)) c.args.conn.now c.ask_row.new.conn _ (also (ap bound_value c.params-to_sql.ensures ∙ ap (λ t. Text t) c.as_str.ensures) no_more) (row_named c.args.name.now)
+    let it = asked_row g.S.Store (question the_table.Workunit (λ _. tt) named_asked named_fits (Text c.args.name.now ∷ []) refl (λ _. refl)) c.args.conn.now c.ask_row.new.conn _ (also (ap bound_value c.params-to_sql.ensures ∙ ap (λ t. Text t) c.as_str.ensures) no_more) (row_named c.args.name.now)
     (λ rows h world s. named_found (state g.S.Store c.args.conn.now) (state g.S.Store c.ask_row.new.conn) world s c.args.name.now rows h) _ q.asks q.opens q.shows q.fails q.told in
     record {
       opens = opens_handed _ _ same g.S.Store c.ask_row.new.conn it.opens;
@@ -23,7 +23,7 @@ returns-in_err-row g c =
 pub returns : goal.returns
 returns g c =
     let q = c.in_ok-row.ensures in
-    let it = asked_row g.S.Store (question Workunits (λ _. tt) named_asked named_fits (Text c.args.name.now ∷ []) refl (λ _. refl)) c.args.conn.now c.ask_row.new.conn _ (also (ap bound_value c.params-to_sql.ensures ∙ ap (λ t. Text t) c.as_str.ensures) no_more) (row_named c.args.name.now)
+    let it = asked_row g.S.Store (question the_table.Workunit (λ _. tt) named_asked named_fits (Text c.args.name.now ∷ []) refl (λ _. refl)) c.args.conn.now c.ask_row.new.conn _ (also (ap bound_value c.params-to_sql.ensures ∙ ap (λ t. Text t) c.as_str.ensures) no_more) (row_named c.args.name.now)
     (λ rows h world s. named_found (state g.S.Store c.args.conn.now) (state g.S.Store c.ask_row.new.conn) world s c.args.name.now rows h) _ q.asks q.opens q.shows q.fails q.told in
     record {
       opens = opens_then g.S.Store c.ask_row.new.conn c.whole.new.conn it.opens c.whole.result c.whole.ensures.reads.asks;

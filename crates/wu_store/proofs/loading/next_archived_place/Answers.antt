@@ -1,5 +1,5 @@
 use Rattle.wu_schema.proofs.Words.{Ok, [], refl, state}
-use Rattle.wu_schema.proofs.Parts.{Archive}
+use Rattle.wu_schema.specs.declared.table.ProjectTable.TheVariants as the_table
 use Rattle.wu_store.specs.Answers.{last_archived}
 use Rattle.wu_store.proofs.AskLemmas.{asked_row, fault_read, nothing_handed, opens_handed, opens_made, reads_handed, reads_also, never_broken}
 use Rattle.wu_store.proofs.LastLemmas.{archived_text, archived_fits, archived_found, last_question}
@@ -10,7 +10,7 @@ pub returns-in_err-last : goal.returns-in_err-last
 returns-in_err-last g c =
     let q = c.in_err-last.ensures in
     let same = c.from_residual.ensures.1 in
-    let it = asked_row g.S.Store (last_question Archive (λ _. tt) archived_text archived_fits) c.args.conn.now c.ask_row.new.conn [] refl last_archived
+    let it = asked_row g.S.Store (last_question the_table.Archived (λ _. tt) archived_text archived_fits) c.args.conn.now c.ask_row.new.conn [] refl last_archived
     (λ rows h world s. archived_found (state g.S.Store c.args.conn.now) (state g.S.Store c.ask_row.new.conn) world s rows h) _ q.asks q.opens q.shows q.fails q.told in
     record {
       within = nothing_handed _ _ same _;
@@ -24,7 +24,7 @@ returns g c =
     let last = c.in_ok-last.last in
     let r = c.place_behind.result in
     let reads = c.place_behind.ensures.reads in
-    let it = asked_row g.S.Store (last_question Archive (λ _. tt) archived_text archived_fits) c.args.conn.now c.ask_row.new.conn [] refl last_archived
+    let it = asked_row g.S.Store (last_question the_table.Archived (λ _. tt) archived_text archived_fits) c.args.conn.now c.ask_row.new.conn [] refl last_archived
     (λ rows h world s. archived_found (state g.S.Store c.args.conn.now) (state g.S.Store c.ask_row.new.conn) world s rows h) (Ok last) q.asks q.opens q.shows q.fails q.told in
     record {
       within = c.place_behind.ensures.within;

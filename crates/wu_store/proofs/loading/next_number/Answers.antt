@@ -1,5 +1,5 @@
 use Rattle.wu_schema.proofs.Words.{Err, Some, [], inr, refl, state, sym, ◌∙◌, ◌≡◌}
-use Rattle.wu_schema.proofs.Parts.{Project}
+use Rattle.wu_schema.specs.declared.table.ProjectTable.TheVariants as the_table
 use Rattle.wu_core.specs.declared.fault.Fault.TheVariants.{NotAProject}
 use Rattle.wu_store.proofs.AskLemmas.{asked_row, fault_read, nothing_handed, opens_handed, opens_made, question, reads_handed, reads_also, never_broken}
 use Rattle.wu_store.specs.Answers.{next_row}
@@ -13,7 +13,7 @@ pub returns-in_err-row : goal.returns-in_err-row
 returns-in_err-row g c =
     let q = c.in_err-row.ensures in
     let same = c.from_residual.ensures.1 in
-    let it = asked_row g.S.Store (question Project (λ _. tt) next_asked next_fits [] refl (λ _. refl)) c.args.conn.now c.ask_row.new.conn [] refl (λ world. Some (next_row world))
+    let it = asked_row g.S.Store (question the_table.Project (λ _. tt) next_asked next_fits [] refl (λ _. refl)) c.args.conn.now c.ask_row.new.conn [] refl (λ world. Some (next_row world))
     (λ found h world s. next_found (state g.S.Store c.args.conn.now) (state g.S.Store c.ask_row.new.conn) world s found h) _ q.asks q.opens q.shows q.fails q.told in
     record {
       within = nothing_handed _ _ same _;
@@ -24,7 +24,7 @@ returns-in_err-row g c =
 pub returns-in-Some : goal.returns-in-Some
 returns-in-Some g c =
     let q = c.in_ok-row.ensures in
-    let asked = asked_row g.S.Store (question Project (λ _. tt) next_asked next_fits [] refl (λ _. refl)) c.args.conn.now c.ask_row.new.conn [] refl (λ world. Some (next_row world))
+    let asked = asked_row g.S.Store (question the_table.Project (λ _. tt) next_asked next_fits [] refl (λ _. refl)) c.args.conn.now c.ask_row.new.conn [] refl (λ world. Some (next_row world))
     (λ found h world s. next_found (state g.S.Store c.args.conn.now) (state g.S.Store c.ask_row.new.conn) world s found h) _ q.asks q.opens q.shows q.fails q.told in
     let r = c.next_number_from.result in
     let reads = c.next_number_from.ensures.reads in
@@ -41,7 +41,7 @@ returns-in-Some g c =
 pub returns-in-None : goal.returns-in-None
 returns-in-None g c =
     let q = c.in_ok-row.ensures in
-    let asked = asked_row g.S.Store (question Project (λ _. tt) next_asked next_fits [] refl (λ _. refl)) c.args.conn.now c.ask_row.new.conn [] refl (λ world. Some (next_row world))
+    let asked = asked_row g.S.Store (question the_table.Project (λ _. tt) next_asked next_fits [] refl (λ _. refl)) c.args.conn.now c.ask_row.new.conn [] refl (λ world. Some (next_row world))
     (λ found h world s. next_found (state g.S.Store c.args.conn.now) (state g.S.Store c.ask_row.new.conn) world s found h) _ q.asks q.opens q.shows q.fails q.told in
     record {
       within = tt;

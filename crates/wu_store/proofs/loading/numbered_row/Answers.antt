@@ -1,5 +1,5 @@
 use Rattle.wu_schema.proofs.Words.{[], arith, number, refl, state, ◌∷◌}
-use Rattle.wu_schema.proofs.Parts.{Workunits}
+use Rattle.wu_schema.specs.declared.table.ProjectTable.TheVariants as the_table
 use Rattle.wu_schema.proofs.InsertEffect.{also, no_more}
 use Rattle.wu_store.specs.Answers.{row_numbered}
 use Rattle.wu_store.proofs.ChangeLemmas.{sent_number}
@@ -20,7 +20,7 @@ returns-in_err-key g c =
 pub returns : goal.returns
 returns g c =
     let q = c.ask_row.ensures in
-    let it = asked_row g.S.Store (question Workunits (λ _. tt) numbered_asked numbered_fits (number c.args.number ∷ []) refl (λ _. refl)) c.args.conn.now c.ask_row.new.conn _ (also (sent_number c.args.number c.params-to_sql.ensures c.in_ok-key.ensures.value c.in_ok-key.ensures.within) no_more) (row_numbered c.args.number)
+    let it = asked_row g.S.Store (question the_table.Workunit (λ _. tt) numbered_asked numbered_fits (number c.args.number ∷ []) refl (λ _. refl)) c.args.conn.now c.ask_row.new.conn _ (also (sent_number c.args.number c.params-to_sql.ensures c.in_ok-key.ensures.value c.in_ok-key.ensures.within) no_more) (row_numbered c.args.number)
     (λ rows h world s. numbered_found (state g.S.Store c.args.conn.now) (state g.S.Store c.ask_row.new.conn) world s c.args.number rows h) c.ask_row.result q.asks q.opens q.shows q.fails q.told in
     record {
       opens = λ low. it.opens;

@@ -4,7 +4,7 @@ use Rattle.wu_store.proofs.InsertTexts.{archived_fits, archived_put}
 use Rattle.wu_schema.proofs.InsertEffect.{also, no_more}
 use Rattle.wu_schema.proofs.CallLemmas.{ran_as}
 use Rattle.wu_schema.proofs.OthersLemmas.{insert_spares, ours_archived}
-use Rattle.wu_schema.proofs.Parts.{Archive}
+use Rattle.wu_schema.specs.declared.table.ProjectTable.TheVariants as the_table
 use Rattle.wu_schema.proofs.QueueLemmas.{queue_beside}
 use Rattle.wu_store.proofs.ChangeLemmas.{bound_number_or_null, put_archived, sent_number}
 use Rattle.wu_store.proofs.ListedLemmas.{stands_with_archived}
@@ -23,6 +23,6 @@ returns g c =
     record {
       writes = c.execute.ensures.writes;
       puts = λ clean. ran_as _ _ archived_put.text _ _ given c.execute.result (c.execute.ensures.ran clean) (λ count ran world s. stands_with_archived _ _ world s c.args.seq a (put_archived _ _ world s c.args.seq a count ran));
-      queue = λ clean. ran_as _ _ archived_put.text _ _ given c.execute.result (c.execute.ensures.ran clean) (λ count ran world marked s q. queue_beside _ world s marked q _ Archive tt _ (put_archived _ _ world s c.args.seq a count ran));
+      queue = λ clean. ran_as _ _ archived_put.text _ _ given c.execute.result (c.execute.ensures.ran clean) (λ count ran world marked s q. queue_beside _ world s marked q _ the_table.Archived tt _ (put_archived _ _ world s c.args.seq a count ran));
       spares = λ clean. ran_as _ _ archived_put.text _ _ given c.execute.result (c.execute.ensures.ran clean) (insert_spares archived_table.0 archived_table.1 archived_put archived_fits (λ tree. ours_archived) _ _ _);
     }

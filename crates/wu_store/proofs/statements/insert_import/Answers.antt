@@ -5,7 +5,7 @@ use Rattle.wu_store.proofs.InsertTexts.{import_fits, import_put}
 use Rattle.wu_schema.proofs.InsertEffect.{also, no_more}
 use Rattle.wu_schema.proofs.CallLemmas.{ran_as}
 use Rattle.wu_schema.proofs.OthersLemmas.{insert_spares, ours_import}
-use Rattle.wu_schema.proofs.Parts.{Imports}
+use Rattle.wu_schema.specs.declared.table.ProjectTable.TheVariants as the_table
 use Rattle.wu_schema.proofs.QueueLemmas.{queue_beside}
 use Rattle.wu_store.proofs.ChangeLemmas.{put_import, sent_number}
 use Rattle.wu_store.proofs.StandsWith.{stands_with_import}
@@ -23,6 +23,6 @@ returns g c =
     record {
       writes = c.execute.ensures.writes;
       puts = λ clean. ran_as _ _ import_put.text _ _ given c.execute.result (c.execute.ensures.ran clean) (λ count ran world s kept. stands_with_import _ _ world s i kept (put_import _ _ world s i count ran));
-      queue = λ clean. ran_as _ _ import_put.text _ _ given c.execute.result (c.execute.ensures.ran clean) (λ count ran world marked s q. queue_beside _ world s marked q _ Imports tt _ (put_import _ _ world s i count ran));
+      queue = λ clean. ran_as _ _ import_put.text _ _ given c.execute.result (c.execute.ensures.ran clean) (λ count ran world marked s q. queue_beside _ world s marked q _ the_table.Import tt _ (put_import _ _ world s i count ran));
       spares = λ clean. ran_as _ _ import_put.text _ _ given c.execute.result (c.execute.ensures.ran clean) (insert_spares import_table.0 import_table.1 import_put import_fits (λ tree. ours_import) _ _ _);
     }

@@ -6,7 +6,7 @@ use Rattle.wu_store.proofs.ChangeLemmas.{put_workunit}
 use Rattle.wu_store.proofs.ClassEffect.{places_workunit, placed_leaves}
 use Rattle.wu_store.proofs.InsertTexts.{workunit_fits, workunit_put}
 use Rattle.wu_store.proofs.PlacedLemmas.{was_free}
-use Rattle.wu_schema.proofs.Parts.{Workunits}
+use Rattle.wu_schema.specs.declared.table.ProjectTable.TheVariants as the_table
 use Rattle.wu_schema.proofs.QueueLemmas.{queue_beside}
 use Rattle.wu_store.proofs.SpareLemmas.{of_class, of_workunit}
 use Rattle.wu_schema.specs.Others.{tables_of_workunits}
@@ -27,7 +27,7 @@ returns g c =
       free = λ clean. let it = first clean in ok_on r _ _ (λ class world s. was_free old.now mid.now world s w (put_workunit old mid world s w it.0 it.1)) (c.insert_class.ensures.puts clean);
       puts = λ clean. let it = first clean in ok_on r _ _ (λ class. record {
         stands = λ world known s. places_workunit old.now mid.now new.now w class world known s (put_workunit old mid world s w it.0 it.1);
-        queue = λ world marked known s q. placed_leaves old.now mid.now new.now w class world known s (put_workunit old mid world s w it.0 it.1) marked (queue_beside old.now world s marked q mid.now Workunits tt _ (put_workunit old mid world s w it.0 it.1));
+        queue = λ world marked known s q. placed_leaves old.now mid.now new.now w class world known s (put_workunit old mid world s w it.0 it.1) marked (queue_beside old.now world s marked q mid.now the_table.Workunit tt _ (put_workunit old mid world s w it.0 it.1));
       }) (c.insert_class.ensures.puts clean);
       spares = λ clean. let it = first clean in ok_on r _ _ (λ class. spares_then tables_of_workunits old.now mid.now new.now (of_workunit old.now mid.now (insert_spares workunit_table.0 workunit_table.1 workunit_put workunit_fits (λ tree. ours_workunit) _ old mid it.0 it.1)) (of_class mid.now new.now class)) (c.insert_class.ensures.spares clean);
     }

@@ -1,5 +1,5 @@
 use Rattle.std.proofs.lemmas.Bool.{iff_false}
-use Rattle.wu_tables.specs.declared.known.ProjectTable.TheVariants.{Host}
+use Rattle.wu_schema.specs.declared.table.ProjectTable.TheVariants.{Host}
 use Rattle.wu_tables.proofs.OrderLemmas.{all_before, first_in}
 use Rattle.wu_tables.proofs.project.know_host_names.Goals as goal
 

@@ -2,7 +2,8 @@ use Rattle.std.proofs.Common.{rules, ◌≡◌, ◌==◌, ◌∙◌, IsTrue, ap,
 use Rattle.std.proofs.lemmas.Bool.Decides.{nat_tests}
 use Rattle.sqlite.specs.Held.{state}
 use Rattle.wu_schema.proofs.CallLemmas.{leaves_only}
-use Rattle.wu_passes.proofs.StandingLemmas.{changes_keep, ended_undone, from_cut, from_done, from_nothing, from_refused, goes_done, no_changes, reply_is, step_is}
+use Rattle.wu_passes.proofs.StandingLemmas.{changes_keep, ended_undone, from_cut, from_done, from_nothing, from_refused, goes_done, reply_is, step_is}
+use Rattle.std.proofs.lemmas.List.{nil_from_length}
 use Rattle.wu_passes.specs.Standing.{GoesOn}
 use Rattle.wu_store.specs.Changing.{made_all}
 use Rattle.wu_passes.proofs.project.Project.carry_out.Goals as goal
@@ -29,7 +30,7 @@ returns-in-Err-clause-from g c clean world request stands shows plans =
 pub returns-then-is_empty-clause-done : goal.returns-then-is_empty-clause-done
 returns-then-is_empty-clause-done g c clean world request stands goes plans =
     let is : (length c.args.changes.now == 0) ≡ true = sym c.is_empty.ensures ∙ c.if-is_empty.true in
-    let none = no_changes c.args.changes.now (grind (arith, nat_tests)) in (
+    let none = nil_from_length c.args.changes.now (grind (arith, nat_tests)) in (
       reply_is world request _ c.args.changes.now plans,
       c.requires,
       subst (λ w. GoesOn (state g.S.Store c.args.self.now.conn) w) (sym (step_is world request _ c.args.changes.now plans ∙ ap (λ cs. made_all cs world) none)) goes,
@@ -38,7 +39,7 @@ returns-then-is_empty-clause-done g c clean world request stands goes plans =
 pub returns-then-is_empty-clause-from : goal.returns-then-is_empty-clause-from
 returns-then-is_empty-clause-from g c clean world request stands shows plans =
     let is : (length c.args.changes.now == 0) ≡ true = sym c.is_empty.ensures ∙ c.if-is_empty.true in
-    from_nothing (state g.S.Store c.args.self.now.conn) (state g.S.Store c.args.self.now.conn) world request _ c.args.changes.now c.args.self.now.has_ended (no_changes c.args.changes.now (grind (arith, nat_tests))) refl plans
+    from_nothing (state g.S.Store c.args.self.now.conn) (state g.S.Store c.args.self.now.conn) world request _ c.args.changes.now c.args.self.now.has_ended (nil_from_length c.args.changes.now (grind (arith, nat_tests))) refl plans
 
 -- it is made
 
