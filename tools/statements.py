@@ -7,9 +7,11 @@
 takes two to four minutes, and compiles `statements.c`, the same over SQLite's library. Both run each statement for a
 thousand workunits among twenty thousand others, in one transaction a command, and commit. The store gets what the
 program asks, and the library what `plain.c` asks. It prints for each command the least milliseconds of five turns, and
-their ratio: what no code around these statements can go below. It ends with 0, and with 1 where anything fails.
+their ratio: what no code around these statements can go below. Then it prints the microseconds of each statement in
+the last command that has it. It ends with 0, and with 1 where anything fails.
 """
 import os
+import re
 import shutil
 import sqlite3
 import subprocess
@@ -210,8 +212,22 @@ def timed(program, lists):
 
 
 def least(program, lists):
+    """Returns the least microseconds of each statement in all turns, by command."""
     turns = [timed(program, lists) for _ in range(TURNS)]
-    return {name: sum(map(min, zip(*(turn[name] for turn in turns)))) / 1000 for name in lists}
+    return {name: [min(times) for times in zip(*(turn[name] for turn in turns))] for name in lists}
+
+
+def label(line):
+    """Returns what a statement does, and to which table. An upsert is an UPDATE here."""
+    how, text = line.split(" ", 1)
+    verb = "UPDATE" if "ON CONFLICT" in text else text.split()[0]
+    table = re.search(r"(?:FROM|INTO|UPDATE) (\w+)", text)[1]
+    return f"{verb} {table}{' by name' if how == 'NAMED' else ''}"
+
+
+def each(found, lists):
+    """Returns the microseconds of each kind of statement."""
+    return {label(line): time / 1000 for name, lines in lists.items() for line, time in zip(lines, found[name])}
 
 
 def main():
@@ -221,9 +237,14 @@ def main():
         store, plain = built()
         make_database("made.db")
         ours, others = least(store, OURS), least(plain, PLAIN)
-        print(f"{'milliseconds':18} {'store':>8} {'SQLite':>8} {'ratio':>6}")
+        print(f"{'milliseconds':26} {'store':>8} {'SQLite':>8} {'ratio':>6}")
         for name in ours:
-            print(f"{name:18} {ours[name]:8.1f} {others[name]:8.1f} {ours[name] / others[name]:6.2f}")
+            one, other = sum(ours[name]) / 1000, sum(others[name]) / 1000
+            print(f"{name:26} {one:8.1f} {other:8.1f} {one / other:6.2f}")
+        print(f"\n{'microseconds':26} {'store':>8} {'SQLite':>8}")
+        one, other = each(ours, OURS), each(others, PLAIN)
+        for what, time in one.items():
+            print(f"{what:26} {time:8.1f} {other[what]:8.1f}" if what in other else f"{what:26} {time:8.1f}")
     finally:
         os.chdir("/")
         shutil.rmtree(here)
