@@ -113,7 +113,7 @@ pub record HasWrongRow (db : Database) (wrong : row.WrongRow) : Type 0 where
 pub record HasHostOfOtherSums (db : Database) (sums : OtherSums) : Type 0 where
   pub place : ℕ
   pub row : HasWrongRow db (record { table = the_table.Host; place = place })
-  pub host : IsFirstOfOtherSums row.shown.rows.plain.grants.items row.shown.rows.plain.hosts.items place sums
+  pub host : IsFirstOfOtherSums row.shown.rows.plain.grants row.shown.rows.plain.hosts place sums
 
 -- The one row of the project has this version, which this program does not know.
 pub record HasOtherVersion (db : Database) (version : ℕ) : Type 0 where

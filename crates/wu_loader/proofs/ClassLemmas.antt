@@ -103,12 +103,12 @@ found_none workunits found is empty = record {
   in_order = subst AreInOrder (sym empty) (λ i j d less low. absurd (omega (arith, low)));
 }
 
-pub found_classes : (workunits : List Workunit) (rows : ClassRows) (classes : List Classed) (found : WithClasses) → rows.workunits.items ≡ map classed_row classes → AreClassedBy workunits classes found.workunits.items
-    → IsPermutation (map class_cells found.hosts.items) rows.hosts.items → AreInOrder found.hosts.items → HasClassesOf workunits (Some rows) found
+pub found_classes : (workunits : List Workunit) (rows : ClassRows) (classes : List Classed) (found : WithClasses) → rows.workunits ≡ map classed_row classes → AreClassedBy workunits classes found.workunits.items
+    → IsPermutation (map class_cells found.hosts.items) rows.hosts → AreInOrder found.hosts.items → HasClassesOf workunits (Some rows) found
 found_classes workunits rows classes found read by hosts_are in_order = record {
   same = by.same;
   classes = λ world works hosts. record {
-    hosts = subst (λ (cs : List HostClass). IsPermutation (map class_cells cs) rows.hosts.items) (sym hosts) hosts_are;
+    hosts = subst (λ (cs : List HostClass). IsPermutation (map class_cells cs) rows.hosts) (sym hosts) hosts_are;
     workunits = read ∙ ap (map classed_row) (sym by.classes) ∙ ap (λ (ws : List Workunit). map classed_row (map classed_of ws)) (sym works);
   };
   in_order = in_order;
@@ -119,7 +119,7 @@ found_rows version rows plain found are has is = record {
   plain = record {
     project = are.project;
     workunits = are.workunits ∙ sym (rows_unclassed plain.workunits) ∙ ap (map workunit_row) (sym has.same) ∙ rows_unclassed found.workunits.items;
-    instances = subst (λ (rs : List Row). IsPermutation rs rows.plain.instances.items) (sym (instances_unclassed plain.workunits) ∙ ap (flat_map instances_of) (sym has.same) ∙ instances_unclassed found.workunits.items) are.instances;
+    instances = subst (λ (rs : List Row). IsPermutation rs rows.plain.instances) (sym (instances_unclassed plain.workunits) ∙ ap (flat_map instances_of) (sym has.same) ∙ instances_unclassed found.workunits.items) are.instances;
     grants = are.grants;
     hosts = are.hosts;
     archived = are.archived;

@@ -58,7 +58,7 @@ module _ (version : ℕ) (rows : PlainRows) where
 -- ---- the tables of classes
 
 -- of these alone the first has something asked of it
-class_right : (rows : ClassRows) (which : ProjectTable) → (which ≡ the_table.HostClass → AreHostClasses rows.hosts.items) → IsRightClass rows which
+class_right : (rows : ClassRows) (which : ProjectTable) → (which ≡ the_table.HostClass → AreHostClasses rows.hosts) → IsRightClass rows which
 class_right rows the_table.Project right = tt
 class_right rows the_table.Workunit right = tt
 class_right rows the_table.Result right = tt
@@ -81,7 +81,7 @@ module _ (works : List Row) (rows : ClassRows) (wrong : WrongRow) where
     before = λ which low. classes_below (Some rows) which (subst (λ (t : ProjectTable). rank which < rank t) is low);
   }
 
-  pub first_workunit_class : AreHostClasses rows.hosts.items → wrong.table ≡ the_table.WorkunitClass → IsWrongClassAt works rows the_table.WorkunitClass wrong.place → IsFirstClass works (Some rows) wrong
+  pub first_workunit_class : AreHostClasses rows.hosts → wrong.table ≡ the_table.WorkunitClass → IsWrongClassAt works rows the_table.WorkunitClass wrong.place → IsFirstClass works (Some rows) wrong
   first_workunit_class right is at = record {
     wrong_row = at_table (IsWrongClassAt works rows) the_table.WorkunitClass wrong (is, at);
     before = λ which low. class_right rows which (λ is. right);
@@ -95,7 +95,7 @@ module _ (version : ℕ) (rows : TableRows) (wrong : WrongRow) where
       let high = plain_low version rows.plain wrong.table wrong.place it.wrong_row in
       record { wrong_row = inl it.wrong_row; plain = it.before; classes = λ which low. classes_below rows.classes which (omega (arith, low, high)) }
 
-  pub first_of_classes : (works : List Row) → works ≡ rows.plain.workunits.items → AreRightBefore version rows.plain 7 → IsFirstClass works rows.classes wrong → IsFirstWrong version rows wrong
+  pub first_of_classes : (works : List Row) → works ≡ rows.plain.workunits → AreRightBefore version rows.plain 7 → IsFirstClass works rows.classes wrong → IsFirstWrong version rows wrong
   first_of_classes works are right it = record {
     wrong_row = inr (subst (λ (rs : List Row). IsWrongClass rs rows.classes wrong) are it.wrong_row);
     plain = λ which low. plain_all version rows.plain right which;

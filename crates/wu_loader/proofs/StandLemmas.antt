@@ -186,7 +186,7 @@ module _ (version : ℕ) (db : Database) (trees : ProjectTrees) (rows : PlainRow
   workunits_stand : AreWhole 15 (db.trees (trees the_table.Workunit)) → db.trees (trees the_table.Workunit) ≡ map stored_workunit world.workunits
   workunits_stand whole =
       let each = all_has (λ r. length r ≡ 16) (db.trees (trees the_table.Workunit)) in
-      stored_keyed db sound (workunit_at (trees the_table.Workunit)) (there (has.tables.each the_table.Workunit tt)) _ _ 14 refl refl (λ row in_tree. each row whole in_tree) rows.workunits.items shown.workunits ∙ ap (map behind_key) are.workunits ∙ map-map behind_key workunit_row world.workunits
+      stored_keyed db sound (workunit_at (trees the_table.Workunit)) (there (has.tables.each the_table.Workunit tt)) _ _ 14 refl refl (λ row in_tree. each row whole in_tree) rows.workunits shown.workunits ∙ ap (map behind_key) are.workunits ∙ map-map behind_key workunit_row world.workunits
 
   -- the tables of classes
   classes_stand : IsClassedVersion version → (classes : ClassRows) → ShowsClasses db.trees trees classes → AreClassRowsOf classes world → HasClasses db.trees trees world

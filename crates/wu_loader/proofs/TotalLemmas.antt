@@ -1,7 +1,6 @@
 -- A host whose row has other sums than its grants is the first that is wrong.
 use Rattle.wu_schema.proofs.Words.{Database, Grant, IsPermutation, List, None, Option, ProjectTrees, Row, Some, arith, filter, inl, inr, length, slice_get, subst, sym, ℕ, ◌+◌, ◌-◌, ◌<◌, ◌∙◌, ◌≡◌}
 use Rattle.std.specs.Borrow.{Bor}
-use Rattle.std.specs.Global.{Vec}
 use Rattle.std.specs.Prelude.{IfSome, sum_by}
 use Rattle.wu_core.specs.Hosts.{is_to}
 use Rattle.wu_store.proofs.GrantSums.{same_count, same_credit}
@@ -60,7 +59,7 @@ module _ (given rows : List Row) (grants sorted : List Grant) (hosts : List Host
         },
   )
 
-pub shows_found : (db : Database) (trees : ProjectTrees) (hosts grants : Vec Row) → ShowsTable the_table.Host db.trees trees hosts.items → ShowsTable the_table.Grant db.trees trees grants.items → (found : Option OtherSums) → IfSome found (λ sums. (n : ℕ) × IsFirstOfOtherSums grants.items hosts.items n sums)
+pub shows_found : (db : Database) (trees : ProjectTrees) (hosts grants : List Row) → ShowsTable the_table.Host db.trees trees hosts → ShowsTable the_table.Grant db.trees trees grants → (found : Option OtherSums) → IfSome found (λ sums. (n : ℕ) × IsFirstOfOtherSums grants hosts n sums)
     → IfSome found (ShowsOtherSums db.trees trees)
 shows_found db trees hosts grants hosts_shown grants_shown None is = tt
 shows_found db trees hosts grants hosts_shown grants_shown (Some sums) is = record { hosts = hosts; grants = grants; hosts_shown = hosts_shown; grants_shown = grants_shown; place = is.0; is = is.1 }
@@ -78,8 +77,8 @@ module _ (version : ℕ) (db : Database) (trees : ProjectTrees) (wrong : told.Wr
   abbrev rows : TableRows
   rows = record { plain = plain; classes = first.rows.classes }
 
-  is_shown : IsFirstOfOtherSums rows.plain.grants.items rows.plain.hosts.items shows.place sums
-  is_shown = subst (λ given. IsFirstOfOtherSums given shows.hosts.items shows.place sums) (shows.grants_shown ∙ sym first.shown.plain.grants) shows.is
+  is_shown : IsFirstOfOtherSums rows.plain.grants rows.plain.hosts shows.place sums
+  is_shown = subst (λ given. IsFirstOfOtherSums given shows.hosts shows.place sums) (shows.grants_shown ∙ sym first.shown.plain.grants) shows.is
 
   -- the tables before are as right as they were
   right_before : (which : ProjectTable) → rank which < 4 → IsRightPlain version plain which
@@ -112,13 +111,13 @@ module _ (version : ℕ) (db : Database) (trees : ProjectTrees) (wrong : told.Wr
       classes = first.shown.classes;
     };
     is = record {
-      wrong_row = inl (other_wrong rows.plain.grants.items rows.plain.hosts.items shows.place sums is_shown);
+      wrong_row = inl (other_wrong rows.plain.grants rows.plain.hosts shows.place sums is_shown);
       plain = right_before;
       classes = subst (λ t. (which : ProjectTable) → rank which < rank t → IsRightOfClasses first.rows.classes which) of_host first.is.classes;
     };
   }
 
   -- the row of that host is the first wrong one
-  pub shown_sums : (it : IsShownWrong version db trees (record { table = the_table.Host; place = shows.place })) × IsFirstOfOtherSums it.rows.plain.grants.items it.rows.plain.hosts.items shows.place sums
+  pub shown_sums : (it : IsShownWrong version db trees (record { table = the_table.Host; place = shows.place })) × IsFirstOfOtherSums it.rows.plain.grants it.rows.plain.hosts shows.place sums
   unfolding shown_first
   shown_sums = (shown_first, is_shown)

@@ -1,21 +1,25 @@
 -- All rows of a table as values.
 use Rattle.wu_schema.proofs.Words.{IfErr, IsErrAnd, Result, Contains-permutation, Err, Has, IsPermutation, IsPermutation-map, IsPermutation-sym, IsSorted, None, Option, all_has, contains_had, has_contained, has_mapped, List, NotAProject, Ok, Row, Some, [], ap, arith, enumerate_from, inl, inr, length, map, refl, slice_get, subst, suc, sym, take, ℕ, zero, ◌++◌, ◌+◌, ◌-◌, ◌<◌, ◌∙◌, ◌∷◌, ◌≡◌, ◌≢◌, ◌≤◌}
-use Rattle.std.specs.Prelude.{All, get_or}
+use Rattle.std.specs.Prelude.{All, drop, slice_index_or}
 use Rattle.std.specs.Option.{option_map}
 use Rattle.std.specs.declared.cmp.Ordering.{Ordering}
-use Rattle.std.proofs.lemmas.List.{take-map, take_more}
+use Rattle.std.proofs.Common.{append-nil, append_assoc}
+use Rattle.std.proofs.lemmas.List.{take-map, take_at}
 use Rattle.std.proofs.lemmas.Option.{slice_get-map}
 use Rattle.std.proofs.lemmas.List.Elements.{recursion_from_All}
 use Rattle.std.proofs.lemmas.List.Sorted.{All-permutation}
-use Rattle.wu_schema.specs.Restoring.{Restores}
 use Rattle.wu_loader.specs.Rows.{project_row}
 use Rattle.wu_loader.specs.Wrongs.{IsNoProject, LacksProject}
 use Rattle.wu_loader.specs.declared.rows.ProjectRow.{ProjectRow}
-use Rattle.wu_loader.specs.Whole.{rows_of, AreOfValues, AreSorted, DiffersAt, IsIn, IsNoRow, UnlessMemory}
+use Rattle.wu_loader.specs.Whole.{rows_of, AreOfValues, AreSorted, DiffersAt, IsIn, IsNoRow, StartsWithNoRow, UnlessMemory}
 use Rattle.wu_loader.specs.declared.finding.NoWorld.{NoWorld}
 use Rattle.wu_loader.specs.declared.finding.NoWorld.TheVariants.{Memory, Wrong as told}
 use Rattle.wu_schema.specs.declared.table.ProjectTable.{ProjectTable}
 use Rattle.wu_loader.specs.declared.finding.WrongRow.{WrongRow}
+
+pub got_behind : {X : Type 0} (xs ys : List X) → slice_get (xs ++ ys) (length xs) ≡ slice_get ys 0
+got_behind [] ys = refl
+got_behind (x ∷ xs) ys = got_behind xs ys
 
 module _ {T : Type 0} (cells : ℕ → T → Row) where
   abbrev at : ℕ × T → Row
@@ -25,28 +29,35 @@ module _ {T : Type 0} (cells : ℕ → T → Row) where
   later n [] x = let e : n ≡ n + 0 = omega arith in ap (λ k. cells k x ∷ []) e
   later n (y ∷ xs) x = let e : n + 1 + length xs ≡ n + suc (length xs) = omega arith in ap (λ rows. cells n y ∷ rows) (later (n + 1) xs x ∙ ap (λ k. map at (enumerate_from (n + 1) xs) ++ cells k x ∷ []) e)
 
-  -- one value more is one row more
-  pub rows_more : (xs : List T) (x : T) (rows : List Row) (i : ℕ) (row : Row) → rows_of cells xs ≡ take i rows → length xs ≡ i → i < length rows → get_or rows i row ≡ row → row ≡ cells (i + 1) x → rows_of cells (xs ++ x ∷ []) ≡ take (i + 1) rows
-  rows_more xs x rows i row so_far long low at is =
-      let e : 1 + length xs ≡ i + 1 = omega (arith, long) in
-      later 1 xs x ∙ ap (λ k. rows_of cells xs ++ cells k x ∷ []) e ∙ (λ k. so_far k ++ sym (at ∙ is) k ∷ []) ∙ sym (take_more rows i row low)
+  -- one row more is read
+  pub read_more : (xs : List T) (x : T) (rest left rows : List Row) (row : Row) (place : ℕ) → rows_of cells xs ++ rest ≡ rows → 0 < length rest → row ≡ slice_index_or rest 0 row → left ≡ drop 1 rest → place ≡ length xs + 1 → row ≡ cells place x → rows_of cells (xs ++ x ∷ []) ++ left ≡ rows
+  read_more xs x [] left rows row place so_far some first less here is = absurd (omega (arith, some))
+  read_more xs x (r ∷ rest) left rows row place so_far some first less here is =
+      let e : 1 + length xs ≡ place = omega (arith, here) in
+      ap (λ rs. rs ++ left) (later 1 xs x ∙ ap (λ k. rows_of cells xs ++ cells k x ∷ []) e)
+      ∙ append_assoc (rows_of cells xs) (cells place x ∷ []) left ∙ (λ k. rows_of cells xs ++ (sym is ∙ first) k ∷ less k) ∙ so_far
 
-get_there : (rows : List Row) (i : ℕ) (row : Row) → i < length rows → get_or rows i row ≡ row → slice_get rows i ≡ Some row
-get_there [] i row low at = absurd (omega (arith, low))
-get_there (r ∷ rows) zero row low at = ap Some at
-get_there (r ∷ rows) (suc i) row low at = get_there rows i row (omega (arith, low)) at
+  long : (n : ℕ) (xs : List T) → length (map at (enumerate_from n xs)) ≡ length xs
+  long n [] = refl
+  long n (x ∷ xs) = ap suc (long (n + 1) xs)
 
--- what is no project's, behind rows of values, is the first row of no value
-pub no_row : {T : Type 0} (cells : ℕ → T → Row) (IsValue : T → Type 0) (rows : List Row) (i : ℕ) (row : Row) → i < length rows → get_or rows i row ≡ row → Restores (cells (i + 1)) IsValue row (Err NotAProject) → AreOfValues cells IsValue (take i rows) → IsNoRow cells IsValue rows (i + 1)
-no_row cells IsValue rows i row low stands read before =
-    let e : i + 1 - 1 ≡ i = omega arith in
-    record {
-      row = row;
-      counted = omega arith;
-      there = subst (λ k. slice_get rows k ≡ Some row) (sym e) (get_there rows i row low stands);
-      none = λ x is same. elim (read.found x is same) [ inl ok ↦ absurd cc | inr memory ↦ absurd cc ];
-      before = subst (λ k. AreOfValues cells IsValue (take k rows)) (sym e) before;
-    }
+  module _ (IsValue : T → Type 0) where
+    -- what is left, behind the rows of values, begins with the first row of no value
+    pub no_row : (xs : List T) (rest rows : List Row) → rows_of cells xs ++ rest ≡ rows → All IsValue xs → StartsWithNoRow cells IsValue (length xs + 1) rest → 0 < length rest → IsNoRow cells IsValue rows (length xs + 1)
+    no_row xs [] rows are each starts some = absurd (omega (arith, some))
+    no_row xs (r ∷ rest) rows are each starts some =
+        let e : length (rows_of cells xs) ≡ length xs + 1 - 1 = omega (arith, long 1 xs) in
+        record {
+          row = r;
+          counted = omega arith;
+          there = ap (λ rs. slice_get rs (length xs + 1 - 1)) (sym are) ∙ ap (slice_get (rows_of cells xs ++ r ∷ rest)) (sym e) ∙ got_behind (rows_of cells xs) (r ∷ rest);
+          none = starts;
+          before = record { values = xs; stored = each; same = ap (take (length xs + 1 - 1)) (sym are) ∙ take_at (rows_of cells xs) (r ∷ rest) (length xs + 1 - 1) e };
+        }
+
+pub none_left : (rows rest : List Row) → length rest ≡ 0 → rows ++ rest ≡ rows
+none_left rows [] none = append-nil rows
+none_left rows (r ∷ rest) none = absurd cc
 
 -- ---- what keeps rows from being those of values
 
@@ -96,10 +107,6 @@ sorted_rows cells IsValue order rows values sorted read each moved up = record {
 }
 
 -- ---- places
-
-pub got_behind : {X : Type 0} (xs ys : List X) → slice_get (xs ++ ys) (length xs) ≡ slice_get ys 0
-got_behind [] ys = refl
-got_behind (x ∷ xs) ys = got_behind xs ys
 
 -- lists that differ at a place are not the same
 pub lists_differ : {X : Type 0} (wanted found : List X) (place : ℕ) → DiffersAt wanted found place → wanted ≢ found

@@ -57,17 +57,17 @@ pub record AreHostClasses (rows : List Row) : Type 0 where
 -- No row of this table, which every version has, is wrong or missing.
 abbrev pub IsRightPlain : ℕ → PlainRows → ProjectTable → Type 0
 IsRightPlain version rows the_table.Project = AreProjectRows version rows.project.items
-IsRightPlain version rows the_table.Workunit = AreWorkunits rows.workunits.items
-IsRightPlain version rows the_table.Result = AreResults rows.workunits.items rows.instances.items
-IsRightPlain version rows the_table.Grant = AreOfValues grant_row IsStoredGrant rows.grants.items
-IsRightPlain version rows the_table.Host = AreHostsOf rows.grants.items rows.hosts.items
-IsRightPlain version rows the_table.Archived = AreOfValues archived_row IsStoredArchived rows.archived.items
-IsRightPlain version rows the_table.Import = AreOfValues (λ _. import_cells) IsStoredImport rows.imports.items
+IsRightPlain version rows the_table.Workunit = AreWorkunits rows.workunits
+IsRightPlain version rows the_table.Result = AreResults rows.workunits rows.instances
+IsRightPlain version rows the_table.Grant = AreOfValues grant_row IsStoredGrant rows.grants
+IsRightPlain version rows the_table.Host = AreHostsOf rows.grants rows.hosts
+IsRightPlain version rows the_table.Archived = AreOfValues archived_row IsStoredArchived rows.archived
+IsRightPlain version rows the_table.Import = AreOfValues (λ _. import_cells) IsStoredImport rows.imports
 IsRightPlain version rows _ = ⊤
 
 -- No row of the classes of hosts is wrong. No table comes behind the classes of workunits.
 abbrev pub IsRightClass : ClassRows → ProjectTable → Type 0
-IsRightClass rows the_table.HostClass = AreHostClasses rows.hosts.items
+IsRightClass rows the_table.HostClass = AreHostClasses rows.hosts
 IsRightClass rows _ = ⊤
 
 abbrev pub IsRightOfClasses : Option ClassRows → ProjectTable → Type 0

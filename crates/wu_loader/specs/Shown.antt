@@ -44,17 +44,17 @@ AreWhole count rows = AllByRecursion (λ row. length row ≡ count + 1) rows
 -- The rows that are shown of the tables of every version: in order of the key if that is the rowid, else in any order.
 pub record ShowsPlain (db : Trees) (trees : ProjectTrees) (rows : PlainRows) : Type 0 where
   pub project : rows.project.items ≡ map (keyed 3) (db (trees the_table.Project))
-  pub workunits : rows.workunits.items ≡ map (keyed 15) (db (trees the_table.Workunit))
-  pub instances : IsPermutation (map (unkeyed 11) (db (trees the_table.Result))) rows.instances.items
-  pub grants : rows.grants.items ≡ map (keyed 5) (db (trees the_table.Grant))
-  pub hosts : IsPermutation (map (unkeyed 3) (db (trees the_table.Host))) rows.hosts.items
-  pub archived : rows.archived.items ≡ map (keyed 7) (db (trees the_table.Archived))
-  pub imports : IsPermutation (map (unkeyed 6) (db (trees the_table.Import))) rows.imports.items
+  pub workunits : rows.workunits ≡ map (keyed 15) (db (trees the_table.Workunit))
+  pub instances : IsPermutation (map (unkeyed 11) (db (trees the_table.Result))) rows.instances
+  pub grants : rows.grants ≡ map (keyed 5) (db (trees the_table.Grant))
+  pub hosts : IsPermutation (map (unkeyed 3) (db (trees the_table.Host))) rows.hosts
+  pub archived : rows.archived ≡ map (keyed 7) (db (trees the_table.Archived))
+  pub imports : IsPermutation (map (unkeyed 6) (db (trees the_table.Import))) rows.imports
 
 -- The rows that are shown of the tables of classes.
 pub record ShowsClasses (db : Trees) (trees : ProjectTrees) (rows : ClassRows) : Type 0 where
-  pub hosts : IsPermutation (map (unkeyed 2) (db (trees the_table.HostClass))) rows.hosts.items
-  pub workunits : rows.workunits.items ≡ map (keyed 2) (db (trees the_table.WorkunitClass))
+  pub hosts : IsPermutation (map (unkeyed 2) (db (trees the_table.HostClass))) rows.hosts
+  pub workunits : rows.workunits ≡ map (keyed 2) (db (trees the_table.WorkunitClass))
 
 -- The rows that are shown of the tables of this version; before version 3 there are no tables of classes.
 pub record ShowsTables (version : ℕ) (db : Trees) (trees : ProjectTrees) (rows : TableRows) : Type 0 where

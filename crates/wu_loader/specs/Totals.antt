@@ -1,6 +1,5 @@
 -- A host whose row has other sums than its grants.
 use Rattle.std.specs.Prelude.{◌≡◌, ℕ, ◌-◌, ◌≤◌, List, Some, slice_get}
-use Rattle.std.specs.Global.{Vec}
 use Rattle.sqlite.specs.Order.{Row}
 use Rattle.sqlite.specs.Tree.{Trees}
 use Rattle.wu_core.specs.Hosts.{credit_of, grants_of}
@@ -37,9 +36,9 @@ pub record IsFirstOfOtherSums (given rows : List Row) (place : ℕ) (sums : told
 -- In the rows of hosts and of grants that questions show, this host is the first that does not have the sums of its
 -- grants.
 pub record ShowsOtherSums (db : Trees) (trees : ProjectTrees) (sums : told.OtherSums) : Type 0 where
-  pub hosts : Vec Row
-  pub grants : Vec Row
-  pub hosts_shown : ShowsTable the_table.Host db trees hosts.items
-  pub grants_shown : ShowsTable the_table.Grant db trees grants.items
+  pub hosts : List Row
+  pub grants : List Row
+  pub hosts_shown : ShowsTable the_table.Host db trees hosts
+  pub grants_shown : ShowsTable the_table.Grant db trees grants
   pub place : ℕ
-  pub is : IsFirstOfOtherSums grants.items hosts.items place sums
+  pub is : IsFirstOfOtherSums grants hosts place sums

@@ -1,5 +1,5 @@
 -- Lists of values and their rows, and why rows are not those of values.
-use Rattle.std.specs.Prelude.{◌≡◌, ◌≢◌, ℕ, ◌+◌, ◌-◌, ◌≤◌, ◌<◌, All, List, length, map, ⊤, Some, slice_get, slice_index_or, take}
+use Rattle.std.specs.Prelude.{◌≡◌, ◌≢◌, ℕ, ◌+◌, ◌-◌, ◌≤◌, ◌<◌, All, List, [], ◌∷◌, length, map, ⊤, Some, slice_get, slice_index_or, take}
 use Rattle.std.specs.List.{enumerate_from}
 use Rattle.std.specs.List.Sorted.{IsPermutation, IsSorted}
 use Rattle.std.specs.declared.cmp.Ordering.{Ordering}
@@ -46,6 +46,11 @@ pub record IsNoRow {T : Type 0} (cells : ℕ → T → Row) (IsValue : T → Typ
   pub there : slice_get rows (place - 1) ≡ Some row
   pub none : (value : T) → IsValue value → row ≢ cells place value
   pub before : AreOfValues cells IsValue (take (place - 1) rows)
+
+-- The first of these rows, at this place, is the row of no value, if there is one.
+abbrev pub StartsWithNoRow : {T : Type 0} → (ℕ → T → Row) → (T → Type 0) → ℕ → List Row → Type 0
+StartsWithNoRow {T} cells IsValue place [] = ⊤
+StartsWithNoRow {T} cells IsValue place (row ∷ rows) = (value : T) → IsValue value → row ≢ cells place value
 
 -- At this place, from 1, what is found differs from what should be there: it is another, too many, or missing. Before
 -- this place there is no difference.

@@ -32,18 +32,18 @@ IsOrdered workunits = IsAscending (λ (one other : Workunit). one.number < other
 -- The rows of the tables that every version has are what the world holds.
 pub record ArePlainRowsOf (rows : PlainRows) (world : World) : Type 0 where
   pub project : rows.project.items ≡ project_row (project_of world) ∷ []
-  pub workunits : rows.workunits.items ≡ map workunit_row world.workunits
-  pub instances : IsPermutation (flat_map instances_of world.workunits) rows.instances.items
-  pub grants : rows.grants.items ≡ rows_of grant_row world.grants
-  pub hosts : IsPermutation (map (host_of world.grants) (hosts_of world.grants)) rows.hosts.items
-  pub archived : rows.archived.items ≡ rows_of archived_row world.archived
-  pub imports : IsPermutation (map import_cells world.imports) rows.imports.items
+  pub workunits : rows.workunits ≡ map workunit_row world.workunits
+  pub instances : IsPermutation (flat_map instances_of world.workunits) rows.instances
+  pub grants : rows.grants ≡ rows_of grant_row world.grants
+  pub hosts : IsPermutation (map (host_of world.grants) (hosts_of world.grants)) rows.hosts
+  pub archived : rows.archived ≡ rows_of archived_row world.archived
+  pub imports : IsPermutation (map import_cells world.imports) rows.imports
   pub imports_kept : All MayBeKept world.imports
 
 -- The rows of the tables of classes are what the world holds.
 pub record AreClassRowsOf (rows : ClassRows) (world : World) : Type 0 where
-  pub hosts : IsPermutation (map class_cells world.classes) rows.hosts.items
-  pub workunits : rows.workunits.items ≡ map classed_row (map classed_of world.workunits)
+  pub hosts : IsPermutation (map class_cells world.classes) rows.hosts
+  pub workunits : rows.workunits ≡ map classed_row (map classed_of world.workunits)
 
 -- The rows of the tables of classes are what the world holds; without these tables it has no classes.
 abbrev pub AreAnyClassRowsOf : Option ClassRows → World → Type 0

@@ -126,12 +126,12 @@ IsWrongWorkunitClass works rows place =
 -- The row at this place is the first wrong one of a table that every version has.
 abbrev pub IsWrongPlainAt : ℕ → PlainRows → ProjectTable → ℕ → Type 0
 IsWrongPlainAt version rows the_table.Project place = IsWrongProject version rows.project.items place
-IsWrongPlainAt version rows the_table.Workunit place = IsNoRow (λ _. workunit_row) IsStoredWorkunit rows.workunits.items place
-IsWrongPlainAt version rows the_table.Result place = IsWrongResult rows.workunits.items rows.instances.items place
-IsWrongPlainAt version rows the_table.Grant place = IsNoRow grant_row IsStoredGrant rows.grants.items place
-IsWrongPlainAt version rows the_table.Host place = IsWrongHostBeside rows.grants.items rows.hosts.items place
-IsWrongPlainAt version rows the_table.Archived place = IsNoRow archived_row IsStoredArchived rows.archived.items place
-IsWrongPlainAt version rows the_table.Import place = IsNoRow (λ _. import_cells) IsStoredImport rows.imports.items place
+IsWrongPlainAt version rows the_table.Workunit place = IsNoRow (λ _. workunit_row) IsStoredWorkunit rows.workunits place
+IsWrongPlainAt version rows the_table.Result place = IsWrongResult rows.workunits rows.instances place
+IsWrongPlainAt version rows the_table.Grant place = IsNoRow grant_row IsStoredGrant rows.grants place
+IsWrongPlainAt version rows the_table.Host place = IsWrongHostBeside rows.grants rows.hosts place
+IsWrongPlainAt version rows the_table.Archived place = IsNoRow archived_row IsStoredArchived rows.archived place
+IsWrongPlainAt version rows the_table.Import place = IsNoRow (λ _. import_cells) IsStoredImport rows.imports place
 IsWrongPlainAt version rows _ place = ⊥
 
 abbrev pub IsWrongPlain : ℕ → PlainRows → told.WrongRow → Type 0
@@ -139,8 +139,8 @@ IsWrongPlain version rows wrong = IsWrongPlainAt version rows wrong.table wrong.
 
 -- The row at this place is the first wrong one of a table of classes, given the rows of the workunits.
 abbrev pub IsWrongClassAt : List Row → ClassRows → ProjectTable → ℕ → Type 0
-IsWrongClassAt works rows the_table.HostClass place = IsWrongHostClass rows.hosts.items place
-IsWrongClassAt works rows the_table.WorkunitClass place = IsWrongWorkunitClass works rows.workunits.items place
+IsWrongClassAt works rows the_table.HostClass place = IsWrongHostClass rows.hosts place
+IsWrongClassAt works rows the_table.WorkunitClass place = IsWrongWorkunitClass works rows.workunits place
 IsWrongClassAt works rows _ place = ⊥
 
 abbrev pub IsWrongClass : List Row → Option ClassRows → told.WrongRow → Type 0
@@ -148,4 +148,4 @@ IsWrongClass works rows wrong = MatchOption rows ⊥ (λ classes. IsWrongClassAt
 
 -- The reported row is the first wrong one of its table, in a project of this version.
 abbrev pub IsWrongRow : ℕ → TableRows → told.WrongRow → Type 0
-IsWrongRow version rows wrong = IsWrongPlain version rows.plain wrong ⊎ IsWrongClass rows.plain.workunits.items rows.classes wrong
+IsWrongRow version rows wrong = IsWrongPlain version rows.plain wrong ⊎ IsWrongClass rows.plain.workunits rows.classes wrong

@@ -14,8 +14,7 @@ ghost use Rattle.wu_loader.specs.Wrongs.{IsWrongHostClass};
 
 use crate::finding::{NoWorld, WrongRow};
 use crate::rows::Classed;
-use crate::whole::all_from;
-use sqlite::Row;
+use crate::whole::RowsOf;
 use std::alloc::{AllocError, Global};
 use wu_core::{HostClass, Workunit};
 use wu_schema::ProjectTable;
@@ -108,9 +107,9 @@ fn first_out_of_order(classes: &[HostClass]) -> Option<usize>
 }
 
 /// Returns the hosts of these rows with their classes, in order of their names. Reports a host that occurs twice.
-pub(crate) fn host_classes(alloc: Global, rows: &[Row]) -> Result<Vec<HostClass>, NoWorld>
+pub(crate) fn host_classes(rows: RowsOf<HostClass>) -> Result<Vec<HostClass>, NoWorld>
     // After `Ok` the rows are those of these hosts and classes, in some order.
-    ensures same { IfOk result (λ classes. IsPermutation (map class_cells classes.items) rows.now) }
+    ensures same { IfOk result (λ classes. IsPermutation (map class_cells classes.items) rows) }
     // After `Ok` the hosts are in order of their names' bytes, each once.
     ensures order { IfOk result (λ classes. AreInOrder classes.items) }
     // After `Ok` each name and class is in its range.
@@ -119,13 +118,13 @@ pub(crate) fn host_classes(alloc: Global, rows: &[Row]) -> Result<Vec<HostClass>
     // classes in range.
     ensures none { IfErr result (λ reason. UnlessMemory reason (λ _. (classes : List HostClass)
         → All IsStoredHostClass classes → AreInOrder classes
-        → ¬ IsPermutation (map class_cells classes) rows.now)) }
+        → ¬ IsPermutation (map class_cells classes) rows)) }
     // The reported row of `host_class` is the first that is that of no host and class; else, in
     // order of names, the first of a host that occurred before.
     ensures told { IfErr result (λ reason. UnlessMemory reason (IsIn ProjectTable.HostClass
-        (IsWrongHostClass rows.now))) }
+        (IsWrongHostClass rows))) }
 {
-    let mut classes = all_from::<HostClass>(alloc, ProjectTable::HostClass, rows)?;
+    let mut classes = rows.into_values(ProjectTable::HostClass)?;
     sort(&mut classes)?;
     match first_out_of_order(&classes) {
         Some(wrong) => {

@@ -61,6 +61,7 @@ fn take_instances(
             instances.push(placed.instance)?;
         }
     }
+    instances.shrink_to_fit();
     Ok(instances)
 }
 

@@ -11,8 +11,7 @@ ghost use Rattle.wu_loader.specs.Whole.{IsIn, IsNotAbove, UnlessMemory};
 ghost use Rattle.wu_loader.specs.Wrongs.{IsWrongHostRow};
 
 use crate::finding::{NoWorld, WrongRow};
-use crate::whole::all_from;
-use sqlite::Row;
+use crate::whole::RowsOf;
 use std::alloc::{AllocError, Global};
 use wu_core::{Grant, Name};
 use wu_schema::ProjectTable;
@@ -177,21 +176,25 @@ fn first_wrong_host(hosts: &[HostSum], grants: &[&Grant]) -> Option<usize>
 
 /// Returns `Ok` if the rows are those of the hosts of these grants. If one is missing, the place after the last row is
 /// reported.
-pub(crate) fn know_hosts(alloc: Global, rows: &[Row], grants: &[Grant]) -> Result<(), NoWorld>
+pub(crate) fn know_hosts(
+    alloc: Global,
+    rows: RowsOf<HostSum>,
+    grants: &[Grant],
+) -> Result<(), NoWorld>
     // `Ok` means that the rows are those of the hosts of these grants with their totals and counts,
     // in some order.
     ensures hosts { OnOk result (IsPermutation (map (host_of grants.now)
-        (hosts_of grants.now)) rows.now) }
+        (hosts_of grants.now)) rows) }
     // A row that is reported means that, for grants with values in range, the rows are not those of
     // their hosts.
     ensures none { IfErr result (λ reason. UnlessMemory reason (λ _. All IsStoredGrant grants.now
-        → ¬ IsPermutation (map (host_of grants.now) (hosts_of grants.now)) rows.now)) }
+        → ¬ IsPermutation (map (host_of grants.now) (hosts_of grants.now)) rows)) }
     // The reported row of `host` is the first that is that of no host; else the first out of order;
     // else the first not as granted; else it is missing after the last one.
     ensures told { IfErr result (λ reason. UnlessMemory reason (IsIn ProjectTable.Host
-        (IsWrongHostRow grants.now rows.now))) }
+        (IsWrongHostRow grants.now rows))) }
 {
-    let mut hosts = all_from::<HostSum>(alloc, ProjectTable::Host, rows)?;
+    let mut hosts = rows.into_values(ProjectTable::Host)?;
     sort(&mut hosts)?;
     let sorted = grants_by_host(alloc, grants)?;
     match first_wrong_host(&hosts, &sorted) {

@@ -44,7 +44,7 @@ pub fn load_world<S: Alter>(
 {
     // that there is a schema means that the tables obey it
     conn.schema();
-    let rows = table_rows(conn, version)?;
+    let rows = table_rows(conn, alloc, version)?;
     match world_from(alloc, version, rows) {
         Ok(loaded) => Ok(Found::World(loaded)),
         Err(NoWorld::Wrong(wrong)) => Ok(Found::Wrong(wrong)),

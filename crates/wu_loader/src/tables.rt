@@ -7,32 +7,36 @@ ghost use Rattle.wu_loader.specs.Asked.{LooksAtTables};
 ghost use Rattle.wu_loader.specs.Questions.{question, ShowsTable};
 ghost use Rattle.wu_loader.specs.Shown.{ShowsTables, ShowsClasses, ShowsPlain};
 
+use crate::rows::{Classed, FromRow, Placed};
 use crate::texts::{
     SELECT_ARCHIVE, SELECT_GRANTS, SELECT_HOST_CLASSES, SELECT_HOSTS, SELECT_IMPORTS,
     SELECT_PROJECT, SELECT_RESULTS, SELECT_WORKUNIT_CLASSES, SELECT_WORKUNITS,
 };
+use crate::whole::RowsOf;
 use sqlite::{Alter, Connection, Row};
 use std::alloc::Global;
-use wu_core::{CLASS_VERSION, Fault};
+use wu_audit::Imported;
+use wu_core::{Archived, CLASS_VERSION, Fault, Grant, HostClass, Workunit};
+use wu_schema::rows::HostSum;
 use wu_schema::{ProjectTable, query};
 
 /// The rows of the tables that every version has, as questions show them.
 #[derive(Drop)]
 pub struct PlainRows {
     pub project: Vec<Row>,
-    pub workunits: Vec<Row>,
-    pub instances: Vec<Row>,
-    pub grants: Vec<Row>,
-    pub hosts: Vec<Row>,
-    pub archived: Vec<Row>,
-    pub imports: Vec<Row>,
+    pub workunits: RowsOf<Workunit>,
+    pub instances: RowsOf<Placed>,
+    pub grants: RowsOf<Grant>,
+    pub hosts: RowsOf<HostSum>,
+    pub archived: RowsOf<Archived>,
+    pub imports: RowsOf<Imported>,
 }
 
 /// The rows of the tables of classes.
 #[derive(Drop)]
 pub struct ClassRows {
-    pub hosts: Vec<Row>,
-    pub workunits: Vec<Row>,
+    pub hosts: RowsOf<HostClass>,
+    pub workunits: RowsOf<Classed>,
 }
 
 /// The rows of all tables of a project.
@@ -61,10 +65,7 @@ fn question(table: ProjectTable) -> &'static str
 }
 
 /// Returns all rows of a table.
-pub(crate) fn rows_of<S: Alter>(
-    conn: &mut Connection<S>,
-    table: ProjectTable,
-) -> Result<Vec<Row>, Fault>
+fn rows_of<S: Alter>(conn: &mut Connection<S>, table: ProjectTable) -> Result<Vec<Row>, Fault>
     // Only reads; over tables of a version that has this table, these are all its rows, as the
     // question shows them.
     ensures { (version : ℕ) → IsTableOf table version
@@ -74,8 +75,24 @@ pub(crate) fn rows_of<S: Alter>(
     query(conn, question(table), &[])
 }
 
+/// Returns all rows of a table, held as values. It gives the rows' memory back before the next table is read.
+pub(crate) fn read_rows<S: Alter, T: FromRow + Drop>(
+    conn: &mut Connection<S>,
+    alloc: Global,
+    table: ProjectTable,
+) -> Result<RowsOf<T>, Fault>
+    // Only reads; over tables of a version that has this table, these are all its rows, as the
+    // question shows them.
+    ensures { (version : ℕ) → IsTableOf table version
+        → LooksAtTables version S.Store conn.old conn.new result
+        (λ db trees rows. ShowsTable table db.trees trees rows) }
+{
+    let rows = rows_of(conn, table)?;
+    Ok(RowsOf::read(alloc, rows)?)
+}
+
 /// Returns the rows of the tables that every version has. Changes nothing.
-fn plain_rows<S: Alter>(conn: &mut Connection<S>) -> Result<PlainRows, Fault>
+fn plain_rows<S: Alter>(conn: &mut Connection<S>, alloc: Global) -> Result<PlainRows, Fault>
     // Only reads; over tables of any version, these are all rows of the tables that every version
     // has.
     ensures { (version : ℕ) → LooksAtTables version S.Store conn.old conn.new result
@@ -83,17 +100,17 @@ fn plain_rows<S: Alter>(conn: &mut Connection<S>) -> Result<PlainRows, Fault>
 {
     Ok(PlainRows {
         project: rows_of(conn, ProjectTable::Project)?,
-        workunits: rows_of(conn, ProjectTable::Workunit)?,
-        instances: rows_of(conn, ProjectTable::Result)?,
-        grants: rows_of(conn, ProjectTable::Grant)?,
-        hosts: rows_of(conn, ProjectTable::Host)?,
-        archived: rows_of(conn, ProjectTable::Archived)?,
-        imports: rows_of(conn, ProjectTable::Import)?,
+        workunits: read_rows(conn, alloc, ProjectTable::Workunit)?,
+        instances: read_rows(conn, alloc, ProjectTable::Result)?,
+        grants: read_rows(conn, alloc, ProjectTable::Grant)?,
+        hosts: read_rows(conn, alloc, ProjectTable::Host)?,
+        archived: read_rows(conn, alloc, ProjectTable::Archived)?,
+        imports: read_rows(conn, alloc, ProjectTable::Import)?,
     })
 }
 
 /// Returns the rows of the tables of classes. Changes nothing.
-fn class_rows<S: Alter>(conn: &mut Connection<S>) -> Result<ClassRows, Fault>
+fn class_rows<S: Alter>(conn: &mut Connection<S>, alloc: Global) -> Result<ClassRows, Fault>
     // Only reads; over tables of a version with classes, these are all rows of the tables of
     // classes.
     ensures { (version : ℕ) → IsClassedVersion version
@@ -101,27 +118,31 @@ fn class_rows<S: Alter>(conn: &mut Connection<S>) -> Result<ClassRows, Fault>
         (λ db trees rows. ShowsClasses db.trees trees rows) }
 {
     Ok(ClassRows {
-        hosts: rows_of(conn, ProjectTable::HostClass)?,
-        workunits: rows_of(conn, ProjectTable::WorkunitClass)?,
+        hosts: read_rows(conn, alloc, ProjectTable::HostClass)?,
+        workunits: read_rows(conn, alloc, ProjectTable::WorkunitClass)?,
     })
 }
 
 /// Returns the rows of all tables of a project of this version. Changes nothing.
-pub fn table_rows<S: Alter>(conn: &mut Connection<S>, version: u64) -> Result<TableRows, Fault>
+pub fn table_rows<S: Alter>(
+    conn: &mut Connection<S>,
+    alloc: Global,
+    version: u64,
+) -> Result<TableRows, Fault>
     // Only reads; over tables of this version in rowid order, these are all rows of each table, as
     // its question shows them. With no limit on steps its only faults over them are `Memory` and
     // `Broken`.
     ensures { LooksAtTables version S.Store conn.old conn.new result
         (λ db trees rows. ShowsTables version db.trees trees rows) }
 {
-    let plain = plain_rows(conn)?;
+    let plain = plain_rows(conn, alloc)?;
     if version < CLASS_VERSION {
         return Ok(TableRows {
             plain,
             classes: None,
         });
     }
-    let classes = class_rows(conn)?;
+    let classes = class_rows(conn, alloc)?;
     Ok(TableRows {
         plain,
         classes: Some(classes),

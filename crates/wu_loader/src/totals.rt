@@ -8,9 +8,9 @@ ghost use Rattle.wu_loader.specs.Totals.{HasOtherSums, IsFirstOfOtherSums, Shows
 
 use crate::finding::NoWorld;
 use crate::hosts::{first_out_of_order, first_ungranted, grants_by_host, run_of, sort};
-use crate::tables::rows_of;
-use crate::whole::all_from;
-use sqlite::{Alter, Connection, Row};
+use crate::tables::read_rows;
+use crate::whole::RowsOf;
+use sqlite::{Alter, Connection};
 use std::alloc::Global;
 use wu_core::{Fault, Grant};
 use wu_schema::ProjectTable;
@@ -62,12 +62,16 @@ fn sums_at(hosts: Vec<HostSum>, place: usize, grants: &[&Grant]) -> Option<Other
 
 /// Returns the first host of these rows that does not have the sums of its grants, with both sums. Returns `None` if a
 /// row is that of no value, the hosts' names do not rise, or no sums differ.
-fn sums_from(alloc: Global, hosts: &[Row], grants: &[Row]) -> Result<Option<OtherSums>, NoWorld>
+fn sums_from(
+    alloc: Global,
+    hosts: RowsOf<HostSum>,
+    grants: RowsOf<Grant>,
+) -> Result<Option<OtherSums>, NoWorld>
     ensures { IfOk result (λ found. IfSome found (λ sums. (place : ℕ)
-        × IsFirstOfOtherSums grants.now hosts.now place sums)) }
+        × IsFirstOfOtherSums grants hosts place sums)) }
 {
-    let grants = all_from::<Grant>(alloc, ProjectTable::Grant, grants)?;
-    let mut hosts = all_from::<HostSum>(alloc, ProjectTable::Host, hosts)?;
+    let grants = grants.into_values(ProjectTable::Grant)?;
+    let mut hosts = hosts.into_values(ProjectTable::Host)?;
     sort(&mut hosts)?;
     let sorted = grants_by_host(alloc, &grants)?;
     let None = first_out_of_order(&hosts) else {
@@ -90,9 +94,9 @@ pub fn other_sums<S: Alter>(
     ensures { (version : ℕ) → LooksAtTables version S.Store conn.old conn.new result
         (λ db trees found. IfSome found (ShowsOtherSums db.trees trees)) }
 {
-    let hosts = rows_of(conn, ProjectTable::Host)?;
-    let grants = rows_of(conn, ProjectTable::Grant)?;
-    match sums_from(alloc, &hosts, &grants) {
+    let hosts = read_rows(conn, alloc, ProjectTable::Host)?;
+    let grants = read_rows(conn, alloc, ProjectTable::Grant)?;
+    match sums_from(alloc, hosts, grants) {
         Ok(found) => Ok(found),
         Err(NoWorld::Wrong(_)) => Ok(None),
         Err(NoWorld::Memory) => Err(Fault::Memory),

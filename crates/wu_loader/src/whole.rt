@@ -1,37 +1,75 @@
 //! All rows of a table as values.
 
-ghost use Rattle.std.specs.Prelude.{◌≡◌, All, IfErr, IfOk};
-ghost use Rattle.wu_loader.specs.Whole.{rows_of, IsIn, IsNoRow, UnlessMemory};
+ghost use Rattle.std.specs.Prelude.{◌≡◌, ◌++◌, ◌+◌, All, IfErr, IfOk, length};
+ghost use Rattle.wu_loader.specs.Whole.{rows_of, IsIn, IsNoRow, StartsWithNoRow, UnlessMemory};
 
 use crate::finding::{NoWorld, WrongRow};
 use crate::rows::FromRow;
 use sqlite::Row;
-use std::alloc::Global;
+use std::alloc::{AllocError, Global};
+use std::collections::VecDeque;
+use std::marker::Model;
 use wu_core::Fault;
 use wu_schema::ProjectTable;
 
-/// Returns the values that the rows of a table represent, or the first row that represents none.
-pub(crate) fn all_from<T: FromRow + Drop>(
-    alloc: Global,
-    table: ProjectTable,
-    rows: &[Row],
-) -> Result<Vec<T>, NoWorld>
-    // After `Ok` the rows are those of these values, by their places from 1.
-    ensures same { IfOk result (λ values. rows.now ≡ rows_of T.cells values.items) }
-    // After `Ok` each value is in its ranges.
-    ensures each { IfOk result (λ values. All T.is_value values.items) }
-    // The row that is reported, of this table, is the first that is that of no value in its ranges.
-    ensures none { IfErr result (λ reason. UnlessMemory reason
-        (IsIn table (IsNoRow T.cells T.is_value rows.now))) }
-{
-    let mut values = Vec::with_capacity(alloc, rows.len())?;
-    for (before, row) in rows.iter().enumerate() {
-        let place = before as u64 + 1;
-        match T::from_row(alloc, place, row) {
-            Ok(value) => values.push(value)?,
-            Err(Fault::NotAProject) => return Err(NoWorld::Wrong(WrongRow { table, place })),
-            Err(_) => return Err(NoWorld::Memory),
+/// The rows of a table. It holds them as values, which take a third of the memory, up to the first that represents
+/// none.
+#[derive(Drop)]
+pub struct RowsOf<T: FromRow + Drop> {
+    values: Vec<T>,
+    rest: VecDeque<Row>,
+}
+
+impl<T: FromRow + Drop> Model for RowsOf<T> {
+    ghost use Rattle.std.specs.Prelude.{◌++◌, ◌+◌, All, List, length};
+    ghost use Rattle.sqlite.specs.Order.{Row};
+    ghost use Rattle.wu_loader.specs.Whole.{rows_of, StartsWithNoRow};
+
+    ghost Value = { List Row };
+
+    ghost view = { λ a. rows_of T.cells a.values.items ++ a.rest.items };
+
+    ghost invariant = { λ a. All T.is_value a.values.items
+        × StartsWithNoRow T.cells T.is_value (length a.values.items + 1) a.rest.items };
+}
+
+impl<T: FromRow + Drop> RowsOf<T> {
+    /// Reads rows as values, up to the first that represents none. It gives the memory of each row back once it is
+    /// read.
+    pub(crate) fn read(alloc: Global, rows: Vec<Row>) -> Result<Self, AllocError>
+        // After `Ok` these are the rows.
+        ensures { IfOk result (λ read. read ≡ rows.items) }
+    {
+        let mut values = Vec::with_capacity(alloc, rows.len())?;
+        let mut rest = VecDeque::from(rows);
+        'each: while let Some(row) = rest.front() {
+            let place = values.len() as u64 + 1;
+            match T::from_row(alloc, place, row) {
+                Ok(value) => values.push(value)?,
+                Err(Fault::NotAProject) => return Ok(RowsOf { values, rest }),
+                Err(_) => return Err(AllocError),
+            }
+            rest.pop_front();
         }
+        Ok(RowsOf { values, rest })
     }
-    Ok(values)
+
+    /// Returns the values that the rows of this table represent, or the first row that represents none.
+    pub(crate) fn into_values(self, table: ProjectTable) -> Result<Vec<T>, NoWorld>
+        // After `Ok` the rows are those of these values, by their places from 1.
+        ensures same { IfOk result (λ values. self ≡ rows_of T.cells values.items) }
+        // After `Ok` each value is in its ranges.
+        ensures each { IfOk result (λ values. All T.is_value values.items) }
+        // The row that is reported, of this table, is the first that is that of no value in its
+        // ranges.
+        ensures none { IfErr result (λ reason. UnlessMemory reason
+            (IsIn table (IsNoRow T.cells T.is_value self))) }
+    {
+        let RowsOf { values, rest } = self;
+        if rest.is_empty() {
+            return Ok(values);
+        }
+        let place = values.len() as u64 + 1;
+        Err(NoWorld::Wrong(WrongRow { table, place }))
+    }
 }

@@ -17,7 +17,6 @@ use crate::finding::{NoWorld, WrongRow};
 use crate::hosts::know_hosts;
 use crate::rows::{Classed, FromRow, ProjectRow};
 use crate::tables::{ClassRows, PlainRows, TableRows};
-use crate::whole::all_from;
 use crate::works::works_from;
 use sqlite::Row;
 use std::alloc::Global;
@@ -111,10 +110,10 @@ fn plain_from(alloc: Global, version: u64, rows: PlainRows) -> Result<Plain, NoW
 {
     let project = project_from(alloc, version, &rows.project)?;
     let workunits = works_from(alloc, rows.workunits, rows.instances)?;
-    let grants = all_from::<Grant>(alloc, ProjectTable::Grant, &rows.grants)?;
-    know_hosts(alloc, &rows.hosts, &grants)?;
-    let archived = all_from::<Archived>(alloc, ProjectTable::Archived, &rows.archived)?;
-    let imports = all_from::<Imported>(alloc, ProjectTable::Import, &rows.imports)?;
+    let grants = rows.grants.into_values(ProjectTable::Grant)?;
+    know_hosts(alloc, rows.hosts, &grants)?;
+    let archived = rows.archived.into_values(ProjectTable::Archived)?;
+    let imports = rows.imports.into_values(ProjectTable::Import)?;
     Ok(Plain {
         project,
         workunits,
@@ -135,20 +134,20 @@ struct WithClasses {
 fn classes_from(
     alloc: Global,
     workunits: Vec<Workunit>,
-    rows: &Option<ClassRows>,
+    rows: Option<ClassRows>,
 ) -> Result<WithClasses, NoWorld>
     // After `Ok` the rows of classes, or that there are none, are those of these workunits and
     // hosts.
-    ensures found { IfOk result (HasClassesOf workunits.items rows.now) }
+    ensures found { IfOk result (HasClassesOf workunits.items rows) }
     // A row that is reported means that the rows of classes are those of no readable world with
     // these workunits.
     ensures none { IfErr result (λ reason. UnlessMemory reason (λ _. (world : World)
         → IsReadable world → AreInOrder world.classes
         → map workunit_row workunits.items ≡ map workunit_row world.workunits
-        → ¬ AreAnyClassRowsOf rows.now world)) }
+        → ¬ AreAnyClassRowsOf rows world)) }
     // The reported row of a table of classes is the first that is missing or invalid at its place.
     ensures told { IfErr result (λ reason. UnlessMemory reason
-        (IsFirstClass (map workunit_row workunits.items) rows.now)) }
+        (IsFirstClass (map workunit_row workunits.items) rows)) }
 {
     let Some(rows) = rows else {
         return Ok(WithClasses {
@@ -156,8 +155,8 @@ fn classes_from(
             hosts: Vec::new(alloc),
         });
     };
-    let hosts = host_classes(alloc, &rows.hosts)?;
-    let classes = all_from::<Classed>(alloc, ProjectTable::WorkunitClass, &rows.workunits)?;
+    let hosts = host_classes(rows.hosts)?;
+    let classes = rows.workunits.into_values(ProjectTable::WorkunitClass)?;
     let workunits = with_classes(alloc, workunits, &classes)?;
     Ok(WithClasses { workunits, hosts })
 }
@@ -181,7 +180,7 @@ pub fn world_from(alloc: Global, version: u64, rows: TableRows) -> Result<Loaded
         archived,
         imports,
     } = plain_from(alloc, version, rows.plain)?;
-    let WithClasses { workunits, hosts } = classes_from(alloc, workunits, &rows.classes)?;
+    let WithClasses { workunits, hosts } = classes_from(alloc, workunits, rows.classes)?;
     Ok(Loaded::new(
         workunits,
         grants,

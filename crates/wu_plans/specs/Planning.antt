@@ -1,6 +1,7 @@
 -- The plan of a command: its answer and its changes, computed before anything is changed.
 use Rattle.std.specs.Prelude.{◌≡◌, ◌≢◌, ◌⊎◌, ℕ, ◌+◌, ◌==◌, ◌&&◌, Bool, true, false, bytes_eq, if◌then◌else◌, List, [], ◌∷◌, ◌++◌, map, length, Some, None, Result, Ok, Err, find, IfErr, IfOk, MatchResult}
 use Rattle.std.specs.List.{enumerate_from}
+use Rattle.std.specs.Borrow.{Bor}
 use Rattle.sqlite.specs.Held.{Held}
 use Rattle.sqlite.specs.Store.{Ghosts}
 use Rattle.wu_core.specs.declared.fault.Fault.{Fault}
@@ -165,10 +166,14 @@ module _ {S T : Type 0} (g : Ghosts S) (old new : Held S) (result : Result T Fau
 abbrev pub KnowsTaken : List ℕ → Result Bool Fault → World → Type 0
 KnowsTaken name result world = MatchResult result (λ taken. taken ≡ is_one_of (taken_names world) name) IsStoreFault
 
--- The answer is whether the name is taken by a workunit, an archived row or one of these jobs, or it is a fault of the
+-- The bytes of these texts.
+abbrev pub texts_of : List (Bor (List ℕ)) → List (List ℕ)
+texts_of texts = map (λ text. text.now) texts
+
+-- The answer is whether the name is one of these, or taken by a workunit or an archived row, or it is a fault of the
 -- store.
-abbrev pub KnowsUsed : List Job → List ℕ → Result Bool Fault → World → Type 0
-KnowsUsed earlier name result world = MatchResult result (λ used. used ≡ is_one_of (taken_names world ++ job_names earlier) name) IsStoreFault
+abbrev pub KnowsUsed : List (List ℕ) → List ℕ → Result Bool Fault → World → Type 0
+KnowsUsed names name result world = MatchResult result (λ used. used ≡ is_one_of (taken_names world ++ names) name) IsStoreFault
 
 -- No job's name is taken, or the fault reports the first one that is.
 abbrev pub FindsFree : {T : Type 0} → List Job → Result T Fault → World → Type 0

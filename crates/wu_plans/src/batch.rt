@@ -1,12 +1,13 @@
 //! A batch: what it answers and what it changes, before anything is changed.
 
-ghost use Rattle.std.specs.Prelude.{⊤, ◌≡◌, ◌+◌, ◌≤◌, ◌==◌, bytes_eq, length, if◌then◌else◌, IfOk, IfErr};
-ghost use Rattle.std.specs.List.{list_any};
+ghost use Rattle.std.specs.Prelude.{⊤, ◌≡◌, ◌∷◌, ◌+◌, ◌≤◌, ◌==◌, length, map, if◌then◌else◌, IfOk, IfErr};
+ghost use Rattle.std.specs.Bool.{OnFalse};
+ghost use Rattle.std.specs.List.Sorted.{IsPermutation};
 ghost use Rattle.wu_core.specs.declared.fault.Fault.TheVariants.{Memory};
 ghost use Rattle.wu_core.specs.Limits.{most_workunits};
 ghost use Rattle.wu_feed.specs.Limits.{most_rows};
 ghost use Rattle.wu_machine.specs.Batches.{new_workunit};
-ghost use Rattle.wu_plans.specs.Planning.{additions, FindsFree, IsNewBatch, KnowsTaken, KnowsUsed, PlansBatch, PlansJobs, PlansNew, RefusesName, PlansWorld};
+ghost use Rattle.wu_plans.specs.Planning.{additions, FindsFree, IsNewBatch, KnowsTaken, KnowsUsed, PlansBatch, PlansJobs, PlansNew, RefusesName, PlansWorld, texts_of};
 ghost use Rattle.wu_machine.specs.Commands.{batch_of};
 ghost use Rattle.wu_machine.specs.Sound.{IsProject};
 ghost use Rattle.wu_schema.specs.Refines.{Refines};
@@ -17,6 +18,7 @@ use crate::imports::{applied, batch_source, imported, kept, repeated};
 use crate::plan::Plan;
 use sqlite::{Alter, Connection};
 use std::alloc::Global;
+use std::collections::HashSet;
 use wu_core::{
     Assimilate, ErrorMask, Fault, FileDelete, ImportKind, Instances, MOST_WORKUNITS, Name, Params,
     Workunit,
@@ -37,35 +39,38 @@ fn is_taken<S: Alter>(conn: &mut Connection<S>, name: &Name) -> Result<bool, Fau
     has_archived(conn, name)
 }
 
-/// Returns whether one of these jobs has the name.
-fn has_job(jobs: &[Job], name: &Name) -> bool
-    ensures { result ≡ list_any (λ job. bytes_eq job.name name.now) jobs.now }
+/// Returns whether the name is one of these, or belongs to a workunit or an archived row. Else it is one of these
+/// afterwards.
+fn is_used<'a, S: Alter>(
+    conn: &mut Connection<S>,
+    names: &mut HashSet<&'a str>,
+    name: &'a Name,
+) -> Result<bool, Fault>
+    // Over a represented world, with no limit on steps, no read is refused.
+    ensures reads { ReadsWorld S.Store conn.old conn.new result
+        (KnowsUsed (texts_of names.old.keys) name.now) (λ _. ⊤) }
+    // After `false` the names are those before, in any order, and this one.
+    ensures adds { IfOk result (λ used. OnFalse used
+        (IsPermutation (name.now ∷ texts_of names.old.keys) (texts_of names.new.keys))) }
 {
-    jobs.iter().any(|job| job.name == *name)
-}
-
-/// Returns whether the name belongs to a workunit, an archived row or one of these jobs.
-fn is_used<S: Alter>(conn: &mut Connection<S>, earlier: &[Job], name: &Name) -> Result<bool, Fault>
-    ensures { ReadsWorld S.Store conn.old conn.new result (KnowsUsed earlier.now name.now)
-        (λ _. ⊤) }
-{
-    if has_job(earlier, name) {
+    if !names.insert(name.as_str())? {
         return Ok(true);
     }
     is_taken(conn, name)
 }
 
 /// Refuses the first job whose name is that of a workunit, an archived row or an earlier job.
-fn check_names<S: Alter>(conn: &mut Connection<S>, jobs: &[Job]) -> Result<(), Fault>
+fn check_names<S: Alter>(conn: &mut Connection<S>, alloc: Global, jobs: &[Job]) -> Result<(), Fault>
     requires { length jobs.now ≤ most_rows }
     // Over a represented world, with no limit on steps, no read is refused.
     ensures { Reads S.Store conn.old conn.new result RefusesName Refines (FindsFree jobs.now)
         (λ _. ⊤) }
 {
+    let mut earlier = HashSet::new(alloc);
     let mut place = 0;
     for job in jobs {
-        if is_used(conn, &jobs[..place], &job.name)? {
-            return Err(Fault::WorkunitUsed(place as u32 + 2));
+        if is_used(conn, &mut earlier, &job.name)? {
+            return Err(Fault::WorkunitUsed(place + 2));
         }
         place += 1;
     }
@@ -159,7 +164,7 @@ fn plan_jobs<'a, S: Alter>(
     ensures { PlansWorld S.Store conn.old conn.new result (PlansJobs batch.now params jobs)
         IsProject }
 {
-    check_names(conn, jobs.as_slice())?;
+    check_names(conn, alloc, jobs.as_slice())?;
     let next = next_number(conn)?;
     if jobs.len() as u64 > MOST_WORKUNITS + 1 - next {
         return Err(Fault::TooMany);

@@ -2,10 +2,9 @@
 use Rattle.std.proofs.Common.{◌≡◌, Option, Some, None, Result, Ok, Err, refl, subst, sym}
 use Rattle.std.specs.Prelude.{[], IfOk, IfSome, MatchResult}
 use Rattle.std.specs.Result.{result_ok}
-use Rattle.sqlite_disk.specs.Memory.{memory_bytes}
 use Rattle.sqlite_disk.specs.declared.Disk.{Ghosts}
 use Rattle.sqlite_disk.specs.declared.Files.{Files}
-use Rattle.sqlite_disk.specs.declared.memory.Memory.{Memory}
+use Rattle.wu_process.specs.declared.memory_file.MemoryFile.{MemoryFile}
 use Rattle.sqlite_store.specs.declared.store.FileStore.{FileStore}
 use Rattle.sqlite.specs.Files.{over_files}
 use Rattle.sqlite.specs.Held.{Held}
@@ -15,7 +14,7 @@ use Rattle.wu_refill.specs.Refilling.{MayBeRefilled}
 use Rattle.wu_core.specs.World.{World}
 use Rattle.wu_process.specs.Backups.{ClosesFiles, ClosesFolded, GoesWith, IsFilled, IsFilledInto, IsFilledWith, IsRefillOf}
 use Rattle.wu_process.specs.Checks.{IsOpenedIn}
-use Rattle.wu_process.specs.Copies.{memory_disk}
+use Rattle.wu_process.specs.MemoryFiles.{bytes_held, memory_disk}
 use Rattle.wu_process.specs.declared.backup.Checked.{Checked}
 use Rattle.wu_process.specs.declared.backup.Folded.{Folded}
 
@@ -34,12 +33,12 @@ folded_may (Ok it) (Err error) done goes may = subst (λ r. IfOk r (λ it. IfSom
 folded_may (Err told) closed done same may = subst (λ r. IfOk r (λ it. IfSome it.checked.world MayBeRefilled)) (sym same) tt
 
 -- of new files that were filled
-pub filled_with : (world : World) (empty : Files Memory) (conn : Held (FileStore Memory memory_disk)) → (blank : (memory_bytes empty.log ≡ []) × (memory_bytes empty.db ≡ [])) → IsOpenedIn empty conn
-    → (files : Option (Files Memory)) → IfSome files (IsFilledInto conn world) → IfSome files (IsFilledWith world)
+pub filled_with : (world : World) (empty : Files MemoryFile) (conn : Held (FileStore MemoryFile memory_disk)) → (blank : (bytes_held empty.log ≡ []) × (bytes_held empty.db ≡ [])) → IsOpenedIn empty conn
+    → (files : Option (Files MemoryFile)) → IfSome files (IsFilledInto conn world) → IfSome files (IsFilledWith world)
 filled_with world empty conn blank opened None fills = tt
 filled_with world empty conn blank opened (Some files) fills = record { empty = empty; blank = blank; conn = conn; opened = opened; fills = fills }
 
-pub refill_of : (folded : Folded Memory) (world : World) → folded.checked.world ≡ Some world → (files : Option (Files Memory)) → IfSome files (IsFilledWith world) → IfSome files (IsRefillOf folded)
+pub refill_of : (folded : Folded MemoryFile) (world : World) → folded.checked.world ≡ Some world → (files : Option (Files MemoryFile)) → IfSome files (IsFilledWith world) → IfSome files (IsRefillOf folded)
 refill_of folded world is None filled = tt
 refill_of folded world is (Some files) filled = (world, is, filled)
 

@@ -1,10 +1,9 @@
 -- A backup of a database, from its path to the new file. The files are copied, and the copy is checked and closed, so
 -- that its one file holds the project without a log. Or the project's world is loaded, and a new database filled with it.
 use Rattle.std.specs.Prelude.{◌≡◌, ◌⊎◌, ℕ, false, List, [], IfErr, MatchResult, Option, Some, Result, Ok, Err, ⊤}
-use Rattle.sqlite_disk.specs.Memory.{memory_bytes}
 use Rattle.sqlite_disk.specs.declared.Disk.{Ghosts}
 use Rattle.sqlite_disk.specs.declared.Files.{Files}
-use Rattle.sqlite_disk.specs.declared.memory.Memory.{Memory}
+use Rattle.wu_process.specs.declared.memory_file.MemoryFile.{MemoryFile}
 use Rattle.sqlite_store.specs.declared.store.FileStore.{FileStore}
 use Rattle.sqlite.specs.Files.{over_files}
 use Rattle.sqlite.specs.Held.{Held}
@@ -27,7 +26,8 @@ use Rattle.wu_schema.specs.Calls.{Commits}
 use Rattle.wu_schema.specs.Faults.{IsStoreFault}
 use Rattle.wu_process.specs.Checks.{IsOpenedIn, IsUnopenedIn}
 use Rattle.wu_process.specs.Closing.{IsClosedInto, IsLeftUnclosed}
-use Rattle.wu_process.specs.Copies.{AreCopiedFrom, memory_disk}
+use Rattle.wu_process.specs.Copies.{AreCopiedFrom}
+use Rattle.wu_process.specs.MemoryFiles.{bytes_held, memory_disk}
 use Rattle.wu_process.specs.declared.backup.Checked.{Checked}
 use Rattle.wu_process.specs.declared.backup.Folded.{Folded}
 
@@ -94,32 +94,32 @@ module _ {D : Type 0} (g : Ghosts D) where
       ((conn : Held (FileStore D g)) × IsOpenedIn files conn × Folds conn done) ⊎ ((told : Trouble) × IsUnopenedIn g files told × (done ≡ Err told))
 
 -- These files are those of a new database that was opened in two empty files, and has this world and nothing else.
-pub record IsFilledWith (world : World) (files : Files Memory) : Type 0 where
-  pub empty : Files Memory
-  pub blank : (memory_bytes empty.log ≡ []) × (memory_bytes empty.db ≡ [])
-  pub conn : Held (FileStore Memory memory_disk)
+pub record IsFilledWith (world : World) (files : Files MemoryFile) : Type 0 where
+  pub empty : Files MemoryFile
+  pub blank : (bytes_held empty.log ≡ []) × (bytes_held empty.db ≡ [])
+  pub conn : Held (FileStore MemoryFile memory_disk)
   pub opened : IsOpenedIn empty conn
   pub fills : IsFilledInto conn world files
 
 -- These files are those of a new database with the world that was loaded.
-abbrev pub IsRefillOf : Folded Memory → Files Memory → Type 0
+abbrev pub IsRefillOf : Folded MemoryFile → Files MemoryFile → Type 0
 IsRefillOf folded files = (world : World) × (folded.checked.world ≡ Some world) × IsFilledWith world files
 
 module _ (makes : List ℕ → List ℕ → Type 0) where
   -- The new file has the bytes of this one, and these numbers are returned; or it is not made, for this reason.
-  abbrev pub MakesFile : List ℕ → Files Memory → Counts → Result Counts Trouble → Type 0
-  MakesFile to files counts (Ok told) = makes to (memory_bytes files.db) × (told ≡ counts)
+  abbrev pub MakesFile : List ℕ → Files MemoryFile → Counts → Result Counts Trouble → Type 0
+  MakesFile to files counts (Ok told) = makes to (bytes_held files.db) × (told ≡ counts)
   MakesFile to files counts (Err told) = (why : Unmade) × (told ≡ trouble.Unmade why)
 
   -- The new file has the bytes of the one that was closed, or of a new database with the world that was loaded. The
   -- numbers are those of the check.
-  pub record BecomesFile (to : List ℕ) (folded : Folded Memory) (made : Result Counts Trouble) : Type 0 where
-    pub files : Files Memory
+  pub record BecomesFile (to : List ℕ) (folded : Folded MemoryFile) (made : Result Counts Trouble) : Type 0 where
+    pub files : Files MemoryFile
     pub source : (files ≡ folded.files) ⊎ IsRefillOf folded files
     pub makes_file : MakesFile to files folded.checked.counts made
 
   -- What became of the copy: its new file, or the trouble that kept it from one.
-  abbrev pub EndsBackup : List ℕ → Result (Folded Memory) Trouble → Result Counts Trouble → Type 0
+  abbrev pub EndsBackup : List ℕ → Result (Folded MemoryFile) Trouble → Result Counts Trouble → Type 0
   EndsBackup to (Ok folded) made = BecomesFile to folded made
   EndsBackup to (Err told) made = made ≡ Err told
 
@@ -127,9 +127,9 @@ module _ (makes : List ℕ → List ℕ → Type 0) where
   -- the new file, whose path names no log.
   pub record MakesOfCopy (path to : List ℕ) (made : Result Counts Trouble) : Type 0 where
     pub own_name : names_log to ≡ false
-    pub files : Files Memory
+    pub files : Files MemoryFile
     pub copy : AreCopiedFrom path files
-    pub folded : Result (Folded Memory) Trouble
+    pub folded : Result (Folded MemoryFile) Trouble
     pub folds : FoldsFiles memory_disk files folded
     pub ends : EndsBackup to folded made
 

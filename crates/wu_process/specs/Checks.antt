@@ -3,7 +3,7 @@
 use Rattle.std.specs.Prelude.{◌≡◌, ◌⊎◌, ℕ, IsTrue, List, Option, Result, Ok, Err}
 use Rattle.sqlite_disk.specs.declared.Disk.{Ghosts}
 use Rattle.sqlite_disk.specs.declared.Files.{Files}
-use Rattle.sqlite_disk.specs.declared.memory.Memory.{Memory}
+use Rattle.wu_process.specs.declared.memory_file.MemoryFile.{MemoryFile}
 use Rattle.sqlite_store.specs.declared.store.FileStore.{FileStore}
 use Rattle.sqlite.specs.Files.{FailsToOpenFiles, file_state, Finds, IsCleanLeft, IsOpened, over_files}
 use Rattle.sqlite.specs.Held.{Held, IsNew}
@@ -17,7 +17,8 @@ use Rattle.wu_cli.specs.Checks.{reason_of_copy}
 use Rattle.wu_cli.specs.declared.reason.Reason.{Reason}
 use Rattle.wu_cli.specs.declared.trouble.Trouble.{Trouble}
 use Rattle.wu_cli.specs.declared.trouble.Trouble.TheVariants as trouble
-use Rattle.wu_process.specs.Copies.{AreCopiedFrom, memory_disk}
+use Rattle.wu_process.specs.Copies.{AreCopiedFrom}
+use Rattle.wu_process.specs.MemoryFiles.{memory_disk}
 
 -- An open database is checked, and then dropped.
 abbrev pub DropsChecked : {S W : Type 0} → StoreGhosts S → (W → Option (List ℕ)) → Held S → W → W → Result (Unit {0}) Trouble → Type 0
@@ -64,7 +65,7 @@ module _ {D W : Type 0} (g : Ghosts D) (contents : W → Option (List ℕ)) wher
 module _ {W : Type 0} (contents : W → Option (List ℕ)) where
   -- These bytes were read of the files at the path, and a copy with exactly these bytes is checked.
   pub record ChecksCopy (path : List ℕ) (old new : W) (done : Result (Unit {0}) Trouble) : Type 0 where
-    pub files : Files Memory
+    pub files : Files MemoryFile
     pub copy : AreCopiedFrom path files
     pub checks : ChecksFiles memory_disk contents files old new done
 

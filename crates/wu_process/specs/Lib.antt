@@ -5,6 +5,7 @@ pub mod Outputs
 pub mod Checks
 pub mod Closing
 pub mod Copies
+pub mod MemoryFiles
 pub mod Opening
 pub mod Running
 pub mod Processes

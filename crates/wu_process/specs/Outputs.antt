@@ -2,7 +2,7 @@
 use Rattle.std.specs.Prelude.{◌≡◌, ◌⊎◌, ℕ, List, Result, Err}
 use Rattle.sqlite_disk.specs.declared.Disk.{Ghosts}
 use Rattle.sqlite_disk.specs.declared.Files.{Files}
-use Rattle.sqlite_disk.specs.declared.memory.Memory.{Memory}
+use Rattle.wu_process.specs.declared.memory_file.MemoryFile.{MemoryFile}
 use Rattle.sqlite_store.specs.declared.store.FileStore.{FileStore}
 use Rattle.sqlite.specs.Files.{over_files}
 use Rattle.sqlite.specs.Held.{Held}
@@ -14,7 +14,8 @@ use Rattle.wu_cli.specs.declared.reason.Reason.{Reason}
 use Rattle.wu_cli.specs.declared.trouble.Trouble.{Trouble}
 use Rattle.wu_cli.specs.declared.trouble.Trouble.TheVariants as trouble
 use Rattle.wu_process.specs.Checks.{IsOpenedIn, IsUnopenedIn}
-use Rattle.wu_process.specs.Copies.{AreCopiedFrom, memory_disk}
+use Rattle.wu_process.specs.Copies.{AreCopiedFrom}
+use Rattle.wu_process.specs.MemoryFiles.{memory_disk}
 
 module _ (keeps : List ℕ → List ℕ → Type 0) (asked : OutputFiles) where
   -- The outputs of an open database are kept, and it is dropped.
@@ -35,7 +36,7 @@ module _ {D : Type 0} (g : Ghosts D) (keeps : List ℕ → List ℕ → Type 0) 
 module _ (keeps : List ℕ → List ℕ → Type 0) (asked : OutputFiles) where
   -- These bytes were read of the files at the path, and the outputs of a copy with exactly these bytes are kept.
   pub record KeepsOfCopy (path : List ℕ) (done : Result KeptCounts Trouble) : Type 0 where
-    pub files : Files Memory
+    pub files : Files MemoryFile
     pub copy : AreCopiedFrom path files
     pub keeps_all : KeepsFiles memory_disk keeps asked files done
 

@@ -9,10 +9,11 @@ ghost use Rattle.wu_schema.specs.Faults.{IsStoreFault};
 
 use crate::copy::copy_files;
 use crate::header::has_many_free_pages;
+use crate::memory_file::MemoryFile;
 use crate::new_file::{MakeFile, refuse_path};
 use crate::opening::{open_copy, options};
 use sqlite::{Alter, Connection, Error, FileStore, Files, Options};
-use sqlite_disk::{Disk, Memory};
+use sqlite_disk::Disk;
 use std::alloc::Global;
 use wu_audit::Loaded;
 use wu_cli::{Counts, Reason, Trouble, count_sound};
@@ -160,13 +161,13 @@ fn fill_and_close<D: Disk + Drop>(
 }
 
 /// Makes two new files in memory with a project that has a world. Where that fails, nothing is returned.
-fn fill_files(alloc: Global, world: &Loaded, options: Options) -> Option<Files<Memory>>
+fn fill_files(alloc: Global, world: &Loaded, options: Options) -> Option<Files<MemoryFile>>
     requires { MayBeRefilled world.now }
     ensures { IfSome result (IsFilledWith world.now) }
 {
     let files = Files {
-        log: Memory::new(alloc),
-        db: Memory::new(alloc),
+        log: MemoryFile::new(alloc),
+        db: MemoryFile::new(alloc),
     };
     match open_copy(alloc, files, options) {
         Ok(conn) => fill_and_close(alloc, conn, world),
@@ -175,7 +176,11 @@ fn fill_files(alloc: Global, world: &Loaded, options: Options) -> Option<Files<M
 }
 
 /// Makes new files with the world of a sound project, if it was loaded. Where that fails, nothing is returned.
-fn refill_files(alloc: Global, folded: &Folded<Memory>, options: Options) -> Option<Files<Memory>>
+fn refill_files(
+    alloc: Global,
+    folded: &Folded<MemoryFile>,
+    options: Options,
+) -> Option<Files<MemoryFile>>
     requires { IfSome folded.now.checked.world MayBeRefilled }
     ensures { IfSome result (IsRefillOf folded.now) }
 {
@@ -189,7 +194,7 @@ fn refill_files(alloc: Global, folded: &Folded<Memory>, options: Options) -> Opt
 fn make_file<F: MakeFile>(
     new_files: &F,
     to: &str,
-    files: &Files<Memory>,
+    files: &Files<MemoryFile>,
     counts: Counts,
 ) -> Result<Counts, Trouble>
     ensures { MakesFile (F.MakeFile.makes new_files.now) to.now files.now counts result }
@@ -206,7 +211,7 @@ fn make_folded<F: MakeFile>(
     alloc: Global,
     new_files: &F,
     to: &str,
-    folded: &Folded<Memory>,
+    folded: &Folded<MemoryFile>,
     options: Options,
 ) -> Result<Counts, Trouble>
     requires { IfSome folded.now.checked.world MayBeRefilled }

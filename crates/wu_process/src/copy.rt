@@ -6,8 +6,9 @@ ghost use Rattle.wu_process.specs.Copies.{AreCopiedFrom, AreCopiesOf, IsCopyOf};
 
 use crate::barring::{refuse_present, why_not_found};
 use crate::header::refuse_other_kind;
+use crate::memory_file::MemoryFile;
 use sqlite::{FileFrom, Files};
-use sqlite_disk::{Disk, Memory, Wary};
+use sqlite_disk::{Disk, Wary};
 use sqlite_std_file::OpenError;
 use std::alloc::Global;
 use std::fs;
@@ -150,11 +151,11 @@ fn read_while_open<'a>(rt: &HostRuntime, path: &'a str) -> Result<FileBytes<'a>,
 }
 
 /// Makes a file in memory with these bytes.
-fn file_in_memory(alloc: Global, bytes: &[u8]) -> Result<Memory, Reason>
+fn file_in_memory(alloc: Global, bytes: &[u8]) -> Result<MemoryFile, Reason>
     ensures copy { IfOk result (IsCopyOf bytes.now) }
     ensures refused { IfErr result (λ reason. reason ≡ WantsMemory) }
 {
-    let mut file = Memory::new(alloc);
+    let mut file = MemoryFile::new(alloc);
     if bytes.is_empty() {
         return Ok(file);
     }
@@ -165,7 +166,7 @@ fn file_in_memory(alloc: Global, bytes: &[u8]) -> Result<Memory, Reason>
 }
 
 /// Makes the two files in memory, with these bytes.
-fn files_in_memory(alloc: Global, bytes: &FileBytes<'_>) -> Result<Files<Memory>, Reason>
+fn files_in_memory(alloc: Global, bytes: &FileBytes<'_>) -> Result<Files<MemoryFile>, Reason>
     // Both files in memory have just the bytes that were read, and can be used.
     ensures copies { IfOk result (AreCopiesOf bytes.now) }
     // The only refusal is out of memory.
@@ -177,7 +178,7 @@ fn files_in_memory(alloc: Global, bytes: &FileBytes<'_>) -> Result<Files<Memory>
 }
 
 /// Copies the two files of the database at the path into memory, as they are at one moment. The copies alone are kept.
-pub fn copy_in_memory(rt: &HostRuntime, path: &str) -> Result<Files<Memory>, Reason>
+pub fn copy_in_memory(rt: &HostRuntime, path: &str) -> Result<Files<MemoryFile>, Reason>
     // The files in memory have just the bytes that were read, and these carry the path.
     ensures { IfOk result (AreCopiedFrom path.now) }
 {
@@ -186,7 +187,7 @@ pub fn copy_in_memory(rt: &HostRuntime, path: &str) -> Result<Files<Memory>, Rea
 }
 
 /// Copies the two files of the database at the path, which this process has open, into memory. The copies alone are kept.
-fn copy_while_open(rt: &HostRuntime, path: &str) -> Result<Files<Memory>, Reason>
+fn copy_while_open(rt: &HostRuntime, path: &str) -> Result<Files<MemoryFile>, Reason>
     // The files in memory have just the bytes that were read, and these carry the path.
     ensures { IfOk result (AreCopiedFrom path.now) }
 {
@@ -195,7 +196,7 @@ fn copy_while_open(rt: &HostRuntime, path: &str) -> Result<Files<Memory>, Reason
 }
 
 /// Copies the files of the database at the path: of one that this process has open, or of one that no other writes to.
-pub fn copy_files(rt: &HostRuntime, path: &str, is_open: bool) -> Result<Files<Memory>, Reason>
+pub fn copy_files(rt: &HostRuntime, path: &str, is_open: bool) -> Result<Files<MemoryFile>, Reason>
     // The files in memory have just the bytes that were read, and these carry the path.
     ensures { IfOk result (AreCopiedFrom path.now) }
 {

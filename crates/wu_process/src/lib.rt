@@ -22,6 +22,7 @@ mod export;
 mod files;
 mod header;
 mod hints;
+mod memory_file;
 mod new_file;
 mod opening;
 mod outputs;

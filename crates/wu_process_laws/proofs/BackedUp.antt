@@ -2,9 +2,8 @@
 use Rattle.std.proofs.Common.{◌≡◌, ◌∙◌, ℕ, List, Option, Some, Result, Ok, Err, inl, inr, refl, sym, ap, subst}
 use Rattle.std.proofs.Math.Logic.{∥∥₁_elim}
 use Rattle.std.specs.Prelude.{IfOk, IfSome, MatchResult, OnOk}
-use Rattle.sqlite_disk.specs.Memory.{memory_bytes}
 use Rattle.sqlite_disk.specs.declared.Files.{Files}
-use Rattle.sqlite_disk.specs.declared.memory.Memory.{Memory}
+use Rattle.wu_process.specs.declared.memory_file.MemoryFile.{MemoryFile}
 use Rattle.sqlite_trees.specs.Tree.{Trees}
 use Rattle.sqlite_wal.specs.Recovery.{Image}
 use Rattle.sqlite_store.specs.declared.store.FileStore.{FileStore}
@@ -29,7 +28,7 @@ use Rattle.wu_cli.specs.declared.trouble.Trouble.TheVariants as trouble
 use Rattle.wu_process.specs.Backups.{BecomesFile, ClosesFolded, Folds, IsFilledWith, LoadsWorld, may_become}
 use Rattle.wu_process.specs.Checks.{IsOpenedIn}
 use Rattle.wu_process.specs.Closing.{IsClosedInto}
-use Rattle.wu_process.specs.Copies.{memory_disk}
+use Rattle.wu_process.specs.MemoryFiles.{bytes_held, memory_disk}
 use Rattle.wu_process.specs.declared.backup.Checked.{Checked}
 use Rattle.wu_process.specs.declared.backup.Folded.{Folded}
 use Rattle.wu_process_laws.specs.BackedUp.{EachBackupHolds, HasNoOthers, HoldsTables, IsBackupOf, without_log}
@@ -50,7 +49,7 @@ same_checked a b same = cc
 -- ---- the copy that was closed
 
 abbrev Copy : Type 0
-Copy = Held (FileStore Memory memory_disk)
+Copy = Held (FileStore MemoryFile memory_disk)
 
 -- what is as before has the same database
 module _ (a b : Copy) (same : IsAsBefore over_files a b) where
@@ -66,7 +65,7 @@ module _ (a b : Copy) (same : IsAsBefore over_files a b) where
     | inr unchanged ↦ unchanged.0.now_is
   ]
 
-module _ (files : Files Memory) (conn : Copy) (opened : IsOpenedIn files conn) where
+module _ (files : Files MemoryFile) (conn : Copy) (opened : IsOpenedIn files conn) where
   abbrev image : Image
   image = image_of memory_disk files
 
@@ -79,7 +78,7 @@ module _ (files : Files Memory) (conn : Copy) (opened : IsOpenedIn files conn) w
   pub found_stands : (world : World) → HoldsWorld image world → StandsFor (file_state conn).now world
   found_stands world held =
       let opens = opened.opens (memory_clean conn) in
-      ((goes_from conn opens image (finds_in files conn (opened.finds (memory_clean conn))) (λ file. inl refl) world held).stands opens.0.is_open).0
+      ((goes_from conn opens image (finds_in files conn (opened.finds (memory_clean conn))) (λ file. refl) world held).stands opens.0.is_open).0
 
   module _ (mid : Copy) (its : Counts) (checks : CountsSound over_files conn mid (Ok its)) where
     pub kept : IsAsBefore over_files conn mid
@@ -112,12 +111,12 @@ module _ (files : Files Memory) (conn : Copy) (opened : IsOpenedIn files conn) w
       its_counts = ap (λ (c : Checked). c.counts) loaded.2
 
       -- the closed copy holds all tables
-      holds_tables : (closed : Files Memory) → IsClosedInto again closed → HoldsTables image (memory_bytes closed.db)
+      holds_tables : (closed : Files MemoryFile) → IsClosedInto again closed → HoldsTables image (bytes_held closed.db)
       holds_tables closed closes db held =
           let copied = closes.copied refl in
           let finds = opened.finds (memory_clean conn) in
           let same = same_committed mid again loaded.3 ∙ same_committed conn mid kept in
-          subst (λ (ts : Trees). ∥ HoldsDatabase (without_log (memory_bytes closed.db)) ts ∥₁) (ap (λ (d : Database). d.trees) same ∙ finds.holds db held) copied.seen.alone
+          subst (λ (ts : Trees). ∥ HoldsDatabase (without_log (bytes_held closed.db)) ts ∥₁) (ap (λ (d : Database). d.trees) same ∙ finds.holds db held) copied.seen.alone
 
       -- if a world was loaded, the files hold nothing of another program, and it is that of each world of them
       module _ (it : World) (is : checked.world ≡ Some it) where
@@ -139,8 +138,8 @@ module _ (files : Files Memory) (conn : Copy) (opened : IsOpenedIn files conn) w
             subst (λ (d : Database). Refines d it) same here
 
       -- and new files with it hold each of these worlds
-      module _ (new : Files Memory) (it : World) (is : checked.world ≡ Some it) (filled : IsFilledWith it new) where
-        refilled : (world : World) → HoldsWorld image world → ∥ HoldsWorld (without_log (memory_bytes new.db)) world ∥₁
+      module _ (new : Files MemoryFile) (it : World) (is : checked.world ≡ Some it) (filled : IsFilledWith it new) where
+        refilled : (world : World) → HoldsWorld image world → ∥ HoldsWorld (without_log (bytes_held new.db)) world ∥₁
         refilled world held =
             let last = filled.fills.again in
             let done = filled.fills.fills (memory_clean last) in
@@ -159,35 +158,35 @@ module _ (files : Files Memory) (conn : Copy) (opened : IsOpenedIn files conn) w
   held_by_tables : (bytes : List ℕ) → HoldsTables image bytes → (world : World) → HoldsWorld image world → ∥ HoldsWorld (without_log bytes) world ∥₁
   held_by_tables bytes tables world held = ∥∥₁_elim (tables held.trees held.holds) squash₁ (λ it. ∣ record { trees = held.trees; holds = it; found = held.found } ∣₁)
 
-  module _ (to : List ℕ) (folded : Folded Memory) (counts : Counts) (file : BecomesFile may_become to folded (Ok counts)) where
+  module _ (to : List ℕ) (folded : Folded MemoryFile) (counts : Counts) (file : BecomesFile may_become to folded (Ok counts)) where
     backup_closed : (mid again : Copy) (its : Counts) (checks : CountsSound over_files conn mid (Ok its)) (checked : Checked) → LoadsWorld over_files mid again its (Ok checked) → ClosesFolded again checked (Ok folded)
-        → IsBackupOf image (memory_bytes file.files.db) counts
+        → IsBackupOf image (bytes_held file.files.db) counts
     backup_closed mid again its checks checked loads closes =
         let numbers : its ≡ counts = sym (its_counts mid its checks again checked loads) ∙ sym (ap (λ (c : Checked). c.counts) closes.0) ∙ sym file.makes_file.1 in
         let right = subst (λ (c : Counts). FindsWith image (λ db. IsSoundAs db c)) numbers (sound mid its checks) in
         elim file.source [
           | inl same ↦
-              let tables = subst (λ (f : Files Memory). HoldsTables image (memory_bytes f.db)) (sym same) (holds_tables mid its checks again checked loads folded.files closes.1) in
-              record { world = held_by_tables (memory_bytes file.files.db) tables; others = inl tables; sound = right }
+              let tables = subst (λ (f : Files MemoryFile). HoldsTables image (bytes_held f.db)) (sym same) (holds_tables mid its checks again checked loads folded.files closes.1) in
+              record { world = held_by_tables (bytes_held file.files.db) tables; others = inl tables; sound = right }
           | inr (it, of, filled) ↦
               let is : checked.world ≡ Some it = sym (ap (λ (c : Checked). c.world) closes.0) ∙ of in
               record { world = refilled mid its checks again checked loads file.files it is filled; others = inr (no_others mid its checks again checked loads file.files it is filled); sound = right }
         ]
 
     backup_counted : (mid again : Copy) (counted : Result Counts Trouble) → CountsSound over_files conn mid counted → (checked : Result Checked Trouble)
-        → MatchResult counted (λ its. LoadsWorld over_files mid again its checked) (λ told. checked ≡ Err told) → MatchResult checked (λ it. ClosesFolded again it (Ok folded)) (λ told. ◌≡◌ {A = Result (Folded Memory) Trouble} (Ok folded) (Err told))
-        → IsBackupOf image (memory_bytes file.files.db) counts
+        → MatchResult counted (λ its. LoadsWorld over_files mid again its checked) (λ told. checked ≡ Err told) → MatchResult checked (λ it. ClosesFolded again it (Ok folded)) (λ told. ◌≡◌ {A = Result (Folded MemoryFile) Trouble} (Ok folded) (Err told))
+        → IsBackupOf image (bytes_held file.files.db) counts
     backup_counted mid again (Ok its) checks (Ok checked) loads closes = backup_closed mid again its checks checked loads closes
     backup_counted mid again (Err why) checks (Ok checked) loads closes = absurd (let e = loads in cc)
     backup_counted mid again counted checks (Err told) loads closes = absurd (let e = closes in cc)
 
-    backup_of : Folds conn (Ok folded) → IsBackupOf image (memory_bytes file.files.db) counts
+    backup_of : Folds conn (Ok folded) → IsBackupOf image (bytes_held file.files.db) counts
     backup_of folds = backup_counted folds.checks.mid folds.again folds.checks.counts folds.checks.checks folds.checked folds.checks.loads folds.ends
 
 pub each_backup : EachBackupHolds
 each_backup path to made it folded is counts file =
     let same : image_of memory_disk it.files ≡ image_of_bytes it.copy.bytes = λ i. record { log = it.copy.copied.log.same i; db = it.copy.copied.db.same i } in
-    subst (λ (image : Image). IsBackupOf image (memory_bytes file.files.db) counts) same (elim it.folds [
+    subst (λ (image : Image). IsBackupOf image (bytes_held file.files.db) counts) same (elim it.folds [
       | inl (conn, opened, folds) ↦ backup_of it.files conn opened to folded counts file (subst (λ done. Folds conn done) is folds)
       | inr (told, unopened, why) ↦ absurd (let e = why in let f = is in cc)
     ])

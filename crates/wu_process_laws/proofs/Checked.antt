@@ -3,7 +3,7 @@ use Rattle.std.proofs.Common.{◌≡◌, ◌⊎◌, ℕ, ◌==◌, true, false, 
 use Rattle.std.proofs.Math.Logic.{∥∥₁_elim}
 use Rattle.std.specs.Prelude.{IfErr, IfOk, IsOkUnless}
 use Rattle.sqlite_disk.specs.declared.Files.{Files}
-use Rattle.sqlite_disk.specs.declared.memory.Memory.{Memory}
+use Rattle.wu_process.specs.declared.memory_file.MemoryFile.{MemoryFile}
 use Rattle.sqlite_disk.specs.declared.tally.Tally.{Tally}
 use Rattle.sqlite_wal.specs.Reads.{tally_of_files}
 use Rattle.sqlite_wal.specs.Recovery.{Image}
@@ -51,7 +51,7 @@ use Rattle.wu_cli.specs.Checks.{reason_of_copy, sound_line}
 use Rattle.wu_cli.specs.declared.trouble.Trouble.{Trouble}
 use Rattle.wu_cli.specs.declared.trouble.Trouble.TheVariants as trouble
 use Rattle.wu_process.specs.Checks.{ChecksOpened, ChecksUnopened}
-use Rattle.wu_process.specs.Copies.{memory_disk}
+use Rattle.wu_process.specs.MemoryFiles.{memory_disk}
 use Rattle.wu_process_laws.specs.Checked.{EachCheckIsTrue, ReportsSound, FindsWith, image_of_bytes, IsTakenName, IsToldTruly, IsWant, TellsOfFiles}
 use Rattle.wu_stops.proofs.BeginningLemmas.{none_beside}
 
@@ -74,10 +74,10 @@ found_in_order image db (inr (nothing, empty)) sound table has =
 
 -- ---- a disk in memory tells no lie
 
-pub memory_clean : (conn : Held (FileStore Memory memory_disk)) → HasCleanDisk (file_state conn)
+pub memory_clean : (conn : Held (FileStore MemoryFile memory_disk)) → HasCleanDisk (file_state conn)
 memory_clean conn = no_doubt _ (clean_is conn.store.pool)
 
-left_clean : (rest : Leftover Memory memory_disk) → IsCleanLeft rest
+left_clean : (rest : Leftover MemoryFile memory_disk) → IsCleanLeft rest
 left_clean (left.Files files) = refl
 left_clean (left.Unopened files) = clean_is files.pool
 left_clean (left.Store store) = clean_is store.pool
@@ -145,7 +145,7 @@ module _ {W : Type 0} (contents : W → Option (List ℕ)) (old new : W) (done :
     want_from v (Err told) gives says fails tells p =
         subst (λ (r : Result (Unit {0}) Trouble). IfErr r (IsExpected p.world)) (sym tells.0) (expected v told gives says fails p)
 
-  module _ (files : Files Memory) where
+  module _ (files : Files MemoryFile) where
     abbrev image : Image
     image = image_of memory_disk files
 

@@ -2,7 +2,7 @@
 use Rattle.std.proofs.Common.{◌≡◌, ℕ, List, Result, Ok, Err, inl, inr, sym, ap, subst}
 use Rattle.std.specs.Prelude.{MatchResult}
 use Rattle.sqlite_disk.specs.declared.Files.{Files}
-use Rattle.sqlite_disk.specs.declared.memory.Memory.{Memory}
+use Rattle.wu_process.specs.declared.memory_file.MemoryFile.{MemoryFile}
 use Rattle.sqlite_wal.specs.Recovery.{Image}
 use Rattle.sqlite_store.specs.declared.store.FileStore.{FileStore}
 use Rattle.sqlite.specs.Effect.{Database}
@@ -25,7 +25,7 @@ use Rattle.wu_cli.specs.declared.outputs.LostOutput.{LostOutput}
 use Rattle.wu_cli.specs.declared.trouble.Trouble.{Trouble}
 use Rattle.wu_cli.specs.declared.trouble.Trouble.TheVariants as trouble
 use Rattle.wu_process.specs.Checks.{IsOpenedIn}
-use Rattle.wu_process.specs.Copies.{memory_disk}
+use Rattle.wu_process.specs.MemoryFiles.{memory_disk}
 use Rattle.wu_process.specs.Outputs.{KeepsOpened}
 use Rattle.wu_process_laws.specs.Checked.{image_of_bytes}
 use Rattle.wu_process_laws.specs.KeptOutputs.{AreItsOutputs, EachOutputBeforeHasItsFile, EachOutputHasItsFile}
@@ -38,17 +38,17 @@ not_lost (Ok (verdict.Sound counts)) lost gives = cc
 not_lost (Ok (verdict.Unsound found)) lost gives = cc
 not_lost (Err fault) lost gives = cc
 
-module _ (keeps : List ℕ → List ℕ → Type 0) (asked : OutputFiles) (files : Files Memory) where
+module _ (keeps : List ℕ → List ℕ → Type 0) (asked : OutputFiles) (files : Files MemoryFile) where
   abbrev image : Image
   image = image_of memory_disk files
 
-  module _ (conn mid again : Held (FileStore Memory memory_disk)) (opened : IsOpenedIn files conn) where
+  module _ (conn mid again : Held (FileStore MemoryFile memory_disk)) (opened : IsOpenedIn files conn) where
     -- the rows that are kept are those of each world of the files
     rows_of : (its : Counts) → CountsSound over_files conn mid (Ok its) → (done : Result KeptCounts Trouble) → KeepsOutputs over_files keeps asked mid again done
         → (world : World) → KnowsClasses world → HoldsWorld image world → KeepsRows keeps asked (archived_lines world) done
     rows_of its checks done ends world known held =
         let same : (file_state mid).now ≡ (file_state conn).now = elim (kept files conn opened mid its checks) [
-          | inl is ↦ ap (λ (h : Held (FileStore Memory memory_disk)). (file_state h).now) is
+          | inl is ↦ ap (λ (h : Held (FileStore MemoryFile memory_disk)). (file_state h).now) is
           | inr unchanged ↦ unchanged.0.now_is
         ] in
         let refines : Refines (file_state mid).now world = subst (λ (d : Database). Refines d world) (sym same) (found_stands files conn opened world held).refines in

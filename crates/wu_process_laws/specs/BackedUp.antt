@@ -1,7 +1,7 @@
 -- What the new file of a backup holds.
 use Rattle.std.specs.Prelude.{◌≡◌, ◌⊎◌, ℕ, List, [], Result, Ok}
-use Rattle.sqlite_disk.specs.Memory.{memory_bytes}
-use Rattle.sqlite_disk.specs.declared.memory.Memory.{Memory}
+use Rattle.wu_process.specs.MemoryFiles.{bytes_held}
+use Rattle.wu_process.specs.declared.memory_file.MemoryFile.{MemoryFile}
 use Rattle.sqlite_trees.specs.Tree.{Trees}
 use Rattle.sqlite_wal.specs.Recovery.{Image}
 use Rattle.sqlite.specs.Effect.{Database}
@@ -42,6 +42,6 @@ pub record IsBackupOf (image : Image) (bytes : List ℕ) (counts : Counts) : Typ
 abbrev pub EachBackupHolds : Type 0
 EachBackupHolds =
     (path to : List ℕ) (made : Result Counts Trouble) (it : MakesOfCopy may_become path to made)
-    (folded : Folded Memory) → it.folded ≡ Ok folded
+    (folded : Folded MemoryFile) → it.folded ≡ Ok folded
     → (counts : Counts) (file : BecomesFile may_become to folded (Ok counts))
-    → IsBackupOf (image_of_bytes it.copy.bytes) (memory_bytes file.files.db) counts
+    → IsBackupOf (image_of_bytes it.copy.bytes) (bytes_held file.files.db) counts

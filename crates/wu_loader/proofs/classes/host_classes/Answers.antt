@@ -9,7 +9,7 @@ use Rattle.wu_loader.proofs.classes.host_classes.Goals as goal
 
 pub returns-in_err-classes-clause-none : goal.returns-in_err-classes-clause-none
 returns-in_err-classes-clause-none c =
-    handed c.from_residual.result c.in_err-classes.field-0.0 _ _ (λ wrong none classes stored in_order. none_permuted class_cells IsStoredHostClass c.args.rows.now wrong.place none.1 classes stored) c.from_residual.ensures.1 c.in_err-classes.ensures.none
+    handed c.from_residual.result c.in_err-classes.field-0.0 _ _ (λ wrong none classes stored in_order. none_permuted class_cells IsStoredHostClass c.args.rows wrong.place none.1 classes stored) c.from_residual.ensures.1 c.in_err-classes.ensures.none
 
 pub returns-in-Some-clause-none : goal.returns-in-Some-clause-none
 returns-in-Some-clause-none c classes stored in_order same =
@@ -44,7 +44,7 @@ returns-in-Some-clause-told c =
       refl,
       inr (record {
         classes = classes;
-        read = sorted_rows class_cells IsStoredHostClass by_host c.args.rows.now c.in_ok-classes.classes.items classes c.in_ok-classes.ensures.same c.in_ok-classes.ensures.each c.in_ok-sort.ensures.same c.in_ok-sort.ensures.sorted;
+        read = sorted_rows class_cells IsStoredHostClass by_host c.args.rows c.in_ok-classes.classes.items classes c.in_ok-classes.ensures.same c.in_ok-classes.ensures.each c.in_ok-sort.ensures.same c.in_ok-sort.ensures.sorted;
         counted = omega arith;
         twice = subst (IsNotAbove by_host classes) e twice;
       }),

@@ -10,7 +10,7 @@ use Rattle.wu_loader.proofs.hosts.know_hosts.Goals as goal
 
 pub returns-in_err-hosts-clause-none : goal.returns-in_err-hosts-clause-none
 returns-in_err-hosts-clause-none c =
-    handed c.from_residual.result c.in_err-hosts.field-0.0 _ _ (λ wrong none. never_hosts c.args.rows.now c.args.grants.now wrong.place none.1) c.from_residual.ensures.1 c.in_err-hosts.ensures.none
+    handed c.from_residual.result c.in_err-hosts.field-0.0 _ _ (λ wrong none. never_hosts c.args.rows c.args.grants.now wrong.place none.1) c.from_residual.ensures.1 c.in_err-hosts.ensures.none
 
 pub returns-in-Some-clause-none : goal.returns-in-Some-clause-none
 returns-in-Some-clause-none c stored same =
@@ -29,7 +29,7 @@ returns-clause-hosts c =
     let grants = c.in_ok-sorted.sorted.items in
     let these : AreHosts (referred grants) c.sort.new.hosts.items = rw (c.deref.ensures.value, c.deref-2.ensures.value) at c.in-None.ensures.hosts in
     let are = hosts_are c.args.grants.now c.sort.new.hosts.items (hosts_moved c.args.grants.now (referred grants) c.in_ok-sorted.ensures.same c.sort.new.hosts.items these) in
-    subst (λ rs. IsPermutation rs c.args.rows.now) are (subst (IsPermutation (map host_row c.sort.new.hosts.items)) (sym rows) (IsPermutation-sym _ _ moved))
+    subst (λ rs. IsPermutation rs c.args.rows) are (subst (IsPermutation (map host_row c.sort.new.hosts.items)) (sym rows) (IsPermutation-sym _ _ moved))
 
 pub returns-in_err-hosts-clause-told : goal.returns-in_err-hosts-clause-told
 returns-in_err-hosts-clause-told c = handed c.from_residual.result c.in_err-hosts.field-0.0 _ _ (λ wrong none. (none.0, inl none.1)) c.from_residual.ensures.1 c.in_err-hosts.ensures.none
@@ -44,7 +44,7 @@ returns-in-Some-clause-told c =
       refl,
       inr (record {
         hosts = hosts;
-        read = sorted_rows host_row IsStoredHost by_name c.args.rows.now c.in_ok-hosts.hosts.items hosts c.in_ok-hosts.ensures.same c.in_ok-hosts.ensures.each c.in_ok-sort.ensures.same c.in_ok-sort.ensures.sorted;
+        read = sorted_rows host_row IsStoredHost by_name c.args.rows c.in_ok-hosts.hosts.items hosts c.in_ok-hosts.ensures.same c.in_ok-hosts.ensures.each c.in_ok-sort.ensures.same c.in_ok-sort.ensures.sorted;
         counted = omega arith;
         wrong = subst (IsWrongHost c.args.grants.now hosts) e moved;
       }),

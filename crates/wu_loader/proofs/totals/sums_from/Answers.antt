@@ -13,7 +13,7 @@ returns-in-Some c =
     let place = c.in-Some.place in
     let rise : Rise hosts = rw c.deref-2.ensures.value at c.in-None.ensures.order in
     let un : IsUngranted sorted hosts place = rw (c.deref-3.ensures.value, c.deref-4.ensures.value) at c.in-Some.ensures.told in
-    other_found c.args.grants.now c.args.hosts.now grants sorted hosts place c.in_ok-grants.ensures.same
+    other_found c.args.grants c.args.hosts grants sorted hosts place c.in_ok-grants.ensures.same
     (IsPermutation-sym _ _ (rw c.deref.ensures.value at c.in_ok-sorted.ensures.same))
-    (sorted_rows host_row IsStoredHost by_name c.args.hosts.now c.in_ok-hosts.hosts.items hosts c.in_ok-hosts.ensures.same c.in_ok-hosts.ensures.each c.in_ok-sort.ensures.same c.in_ok-sort.ensures.sorted)
+    (sorted_rows host_row IsStoredHost by_name c.args.hosts c.in_ok-hosts.hosts.items hosts c.in_ok-hosts.ensures.same c.in_ok-hosts.ensures.each c.in_ok-sort.ensures.same c.in_ok-sort.ensures.sorted)
     rise un c.sums_at.result c.sums_at.ensures.there (rw c.deref-in-Some.ensures.value at c.sums_at.ensures.other)

@@ -1,19 +1,41 @@
-use Rattle.std.proofs.Common.{sym, ◌∙◌, rules}
-use Rattle.wu_plans.proofs.AskLemmas.{used_by_job, used_by_world}
+use Rattle.std.proofs.Common.{◌∙◌, inl, refl, sym}
+use Rattle.std.proofs.lemmas.Bool.{not-false, not-true}
+use Rattle.wu_core.specs.declared.fault.Fault.TheVariants.{Broken, Memory}
+use Rattle.wu_store.proofs.AskLemmas.{asks_none, fault_handed, handed_on, match_handed, nothing_handed, reads_none}
+use Rattle.wu_plans.proofs.AskLemmas.{among_is, names_added, unless_used, used_by_name, used_by_world}
+use Rattle.wu_plans.proofs.ExitLemmas.{handed_other}
 use Rattle.wu_plans.proofs.batch.is_used.Goals as goal
 
-pub returns-then-has_job : goal.returns-then-has_job
-returns-then-has_job g c = record {
-  asks = search rules;
-  fault = search rules;
-  found = λ clean world stands. used_by_job world c.args.earlier.now c.args.name.now (sym c.has_job.ensures ∙ c.if-has_job.true);
-  unrefused = search rules;
-}
+pub returns-in_err-insert : goal.returns-in_err-insert
+returns-in_err-insert g c =
+    let r = c.from_residual.result in
+    let memory = c.from_residual.ensures.1 in
+    record {
+      reads = record {
+        asks = asks_none g.S.Store c.args.conn.now r (handed_other r Memory Broken memory (λ no. cc));
+        fault = fault_handed r Memory memory (inl refl);
+        found = λ clean world stands. match_handed r Memory memory _ (inl refl);
+        unrefused = λ clean world stands any limit. handed_on r Memory memory (λ no. cc);
+      };
+      adds = nothing_handed r Memory memory _;
+    }
+
+pub returns-then-not-branch : goal.returns-then-not-branch
+returns-then-not-branch g c =
+    let known = not-false _ (sym c.in_ok-insert.ensures.added ∙ c.if-not-branch.true) in record {
+      reads = reads_none g.S.Store _ _ (λ world stands. used_by_name world _ _ (rw c.as_str.ensures at (among_is c.args.names.now.keys c.as_str.result ∙ known)));
+      adds = tt;
+    }
 
 pub returns : goal.returns
-returns g c = record {
-  asks = search rules;
-  fault = search rules;
-  found = λ clean world stands. used_by_world world c.args.earlier.now c.args.name.now c.is_taken.result (sym c.has_job.ensures ∙ c.if-has_job.false) (c.is_taken.ensures.reads.found clean world stands);
-  unrefused = search rules;
-}
+returns g c =
+    let unknown = not-true _ (sym c.in_ok-insert.ensures.added ∙ c.if-not-branch.false) in
+    record {
+      reads = record {
+        asks = c.is_taken.ensures.reads.asks;
+        fault = c.is_taken.ensures.reads.fault;
+        found = λ clean world stands. used_by_world world _ c.args.name.now c.is_taken.result (rw c.as_str.ensures at (among_is c.args.names.now.keys c.as_str.result ∙ unknown)) (c.is_taken.ensures.reads.found clean world stands);
+        unrefused = c.is_taken.ensures.reads.unrefused;
+      };
+      adds = unless_used c.is_taken.result (rw c.as_str.ensures at (names_added _ _ c.as_str.result (rw c.if-not-branch.false at c.in_ok-insert.ensures.keys)));
+    }

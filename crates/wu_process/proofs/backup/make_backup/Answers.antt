@@ -1,5 +1,5 @@
 use Rattle.std.proofs.Common.{◌≡◌, Ok, Err, Result, inl, rules, subst, sym}
-use Rattle.sqlite_disk.specs.declared.memory.Memory.{Memory}
+use Rattle.wu_process.specs.declared.memory_file.MemoryFile.{MemoryFile}
 use Rattle.std.specs.Prelude.{IfOk, false}
 use Rattle.wu_cli.specs.LogNames.{names_log}
 use Rattle.wu_cli.specs.declared.backup.Unmade.{Unmade}
@@ -20,7 +20,7 @@ returns-in_err-folded g c =
       copy = c.in-Ok.ensures;
       folded = c.fold.result;
       folds = c.fold.ensures.folds;
-      ends = subst (λ (r : Result (Folded Memory) Trouble). EndsBackup (g.F.MakeFile.makes c.args.new_files.now) c.args.to.now r made) (sym is) told;
+      ends = subst (λ (r : Result (Folded MemoryFile) Trouble). EndsBackup (g.F.MakeFile.makes c.args.new_files.now) c.args.to.now r made) (sym is) told;
     })
 
 pub returns : goal.returns
@@ -32,5 +32,5 @@ returns g c =
       copy = c.in-Ok.ensures;
       folded = c.fold.result;
       folds = c.fold.ensures.folds;
-      ends = subst (λ (r : Result (Folded Memory) Trouble). EndsBackup (g.F.MakeFile.makes c.args.new_files.now) c.args.to.now r c.make_folded.result) (sym is) c.make_folded.ensures;
+      ends = subst (λ (r : Result (Folded MemoryFile) Trouble). EndsBackup (g.F.MakeFile.makes c.args.new_files.now) c.args.to.now r c.make_folded.result) (sym is) c.make_folded.ensures;
     })
