@@ -173,9 +173,9 @@ fn examine<S: Alter>(conn: &mut Connection<S>, alloc: Global) -> Result<Verdict,
 /// Returns whether the database holds a sound project of a version that this program knows, and nothing that keeps it
 /// from an upgrade, or what was found first. Reads all tables whole, and changes nothing.
 pub fn check<S: Alter>(conn: &mut Connection<S>, alloc: Global) -> Result<Verdict, Fault>
-    // It only reads, and each of its answers and faults means what `Checks` says: `Sound` is of a
-    // sound project with these numbers, a finding is true and the first in the written order, and
-    // with no limit on steps the only faults are `Memory` and `Broken`.
+    // It only reads, and each of its answers and faults means what `Checks` says. `Sound` is of a
+    // sound project with these numbers, and a finding is true and the first in the written order.
+    // With no limit on steps the only faults are `Memory` and `Broken`.
     ensures { Checks S.Store conn.old conn.new result }
 {
     sound_in_any_order();

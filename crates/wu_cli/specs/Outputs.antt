@@ -131,8 +131,8 @@ module _ {S : Type 0} (g : Ghosts S) (keeps : List ℕ → List ℕ → Type 0) 
 -- ---- what is reported
 
 -- The line that reports how many outputs have their files.
-abbrev pub kept_line : List ℕ → KeptCounts → List ℕ
-kept_line folder counts =
+abbrev pub outputs_line : List ℕ → KeptCounts → List ℕ
+outputs_line folder counts =
     codes "outputs " ++ (folder ++ (codes ": made=" ++ (decimal counts.made ++ (codes " there=" ++ (decimal counts.there ++ line_end)))))
 
 -- The line that reports an output without a file.

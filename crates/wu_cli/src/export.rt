@@ -4,7 +4,7 @@ ghost use Rattle.std.specs.Prelude.{◌≡◌, IsOkUnless};
 ghost use Rattle.wu_core.specs.declared.fault.Fault.TheVariants.{Output};
 ghost use Rattle.wu_report.specs.Writing.{WritesTo};
 ghost use Rattle.wu_cli.specs.Exports.{exported_line, Exports, ExportsEach, TellsMade};
-ghost use Rattle.wu_cli.specs.Outputs.{kept_line};
+ghost use Rattle.wu_cli.specs.Outputs.{outputs_line};
 
 use crate::backup::write_backed_up;
 use crate::outputs::KeptCounts;
@@ -43,7 +43,7 @@ pub trait MakeExport {
 
 /// Writes how many outputs have their files, and flushes.
 fn write_kept<W: Write>(out: &mut W, folder: &str, counts: KeptCounts) -> Result<(), Fault>
-    ensures bytes { WritesTo W.contents out.old out.new (kept_line folder.now counts) result }
+    ensures bytes { WritesTo W.contents out.old out.new (outputs_line folder.now counts) result }
     ensures fault { IsOkUnless result Output }
 {
     write_flushed(

@@ -252,8 +252,8 @@ pub fn serve<S: Alter, R: BufRead, F: ReadFile + MakeExport, W: Write, E: Write>
     err: &mut E,
 ) -> u8
     // Of an input whose bytes are known the lines are done and answered in order, each over what the
-    // one before it left, up to its end or to one that ends the session. None of these is left out,
-    // and none is done twice.
+    // one before it left. That goes up to its end, or to a line that ends the session. None of these
+    // is left out, and none is done twice.
     ensures { RunsSession W.contents (F.ReadFile.gives files.now)
         (F.MakeExport.exports files.now) db.now
         project.old project.new out.old out.new

@@ -3,7 +3,7 @@
 /// The words in lower case, a line each for what they are, the words, and the topic that explains them. Of the lines that
 /// have a word the first explains it where it stands alone: `class` is why a row was skipped before it is a column.
 ///
-/// `number` and `fault` are the two names of a fault, and the name of F17 alone is a cause of F3. What is printed is found
+/// `number` and `fault` are the two names of a fault, and the name of F17 alone is a cause of F3. An `option` is of a pass. What is printed is found
 /// by its first word. A `report` is of a check, a backup or outputs, and an `answer` of a command. A `reading` is of a
 /// lint, and a `usage` of a command line. After `cannot` and `unknown` stands what could not be done or is invalid.
 pub const INDEX: &str = "view: workunits -> view workunits
@@ -32,6 +32,7 @@ file: jobs -> file jobs
 file: sends -> file sends
 file: reports -> file reports
 file: classes -> file classes
+file: template -> template
 subject: causes -> causes
 subject: skips -> skips
 subject: template -> template
@@ -56,6 +57,7 @@ cause: unreadable too_long header too_many_rows fields name input result host mo
 key: document -> F2
 key: min_quorum target_nresults delay_bound credit max_error_results max_total_results -> template
 key: max_success_results -> template
+option: limit --limit min-age min_age --min-age -> passes
 subcommand: batch -> file jobs
 subcommand: sent -> file sends
 subcommand: reported -> file reports
@@ -130,6 +132,17 @@ the disk -> openings
 the file -> openings
 there is no such -> openings
 a check names -> openings
+a quote -> scripts
+line too -> scripts
+after a -> scripts
+a script is -> scripts
+a session is -> scripts
+a check is -> scripts
+a backup cannot -> scripts
+a lint is -> scripts
+an explanation is -> scripts
+help is -> scripts
+outputs cannot -> scripts
 lintelthyme: opening -> openings
 lintelthyme: -> scripts
 = ready -> scripts

@@ -45,10 +45,10 @@ fn first_word(text: &str) -> (&str, &str) {
 /// list of all topics. The first word may hold all of them, after blanks, as where they are quoted. A fault may go on
 /// with further words, as it is printed, and its number may be left out. It may also stand after `=` and a status, as a
 /// session prints it, or after `line` and `NUMBER:`, as it is printed of a script. Why a row was skipped may stand after
-/// `row` and `NUMBER:`. What begins with `cannot` or `unknown` is explained by the word after it, and what answers, a
-/// check, a backup, outputs, a lint or the reading of a command line report by its first word. A line of a host is
-/// explained by its view, and why a database cannot be opened by the words that begin it. Returns `None` if there is no
-/// such topic.
+/// `row` and `NUMBER:`. What begins with `cannot` or `unknown` is explained by the word after it. By its first word is
+/// explained what answers say, and what a check, a backup, outputs, a lint or the reading of a command line report. A line
+/// of a host is explained by its view. Why a database cannot be opened is explained by the words that begin it, and so is
+/// a line that a script or a session does not take. Returns `None` if there is no such topic.
 pub fn explanation<'a>(first: &str, second: &str, third: &str, fourth: &str) -> Option<&'a str>
     // A text that is returned is not empty.
     ensures { IfSome result (λ text. 1 ≤ length text.now) }

@@ -219,8 +219,9 @@ F9 after the purge. So in a script put try before it: explain scripts.
             "upgrade --db PATH makes a project of version 1 or 2 one of version 3, and prints the
 version that it had and the one that it has
   upgrade: 1 to 3
-Until then every other command is refused as F11. Copy the file before, and its log
-where there is one. A project of version 3 stays as it is: upgrade: 3 to 3.
+Until then every other command and view is refused as F11. A check, a backup and
+outputs work: make a backup before. A project of version 3 stays as it is: upgrade:
+3 to 3.
 ",
         ),
         "checks" => Some(

@@ -19,7 +19,7 @@ use Rattle.wu_schema.specs.Stored.{host_cells}
 use Rattle.wu_loader.specs.Rows.{IsStoredGrant}
 use Rattle.wu_schema.specs.Reading.{host_row, IsStoredHost}
 use Rattle.wu_core.proofs.HostLemmas.{Ascends, below, once, pairs_ascend}
-use Rattle.wu_loader.specs.Granting.{by_name, AreHosts, IsGranted, IsListed, Rise}
+use Rattle.wu_loader.specs.Granting.{by_name, AreHosts, HasGrantedSums, IsListed, Rise}
 use Rattle.wu_schema.specs.declared.rows.HostSum.{HostSum}
 
 pub by_name_total : IsTotalOrder by_name
@@ -49,7 +49,7 @@ module _ (grants : List Grant) (hosts : List HostSum) where
       there : (n : List ℕ) → Has (map (λ (h : HostSum). h.name) hosts) n → Has (hosts_of grants) n
       there n has =
           let it = has_mapped (λ (h : HostSum). h.name) hosts n has in
-          let is = all_has (IsGranted grants) hosts it.0 (recursion_from_All (IsGranted grants) hosts are.each) it.1 in
+          let is = all_has (HasGrantedSums grants) hosts it.0 (recursion_from_All (HasGrantedSums grants) hosts are.each) it.1 in
           let some = is.some in
           let count = is.count in
           subst (Has (hosts_of grants)) (sym it.2) (granted_there grants it.0.name (omega (arith, some, count)))
@@ -61,9 +61,9 @@ module _ (grants : List Grant) (hosts : List HostSum) where
 
   -- so their rows are
   pub hosts_are : AreHosts grants hosts → map host_row hosts ≡ map (host_of grants) (hosts_of grants)
-  hosts_are are = each_row hosts (recursion_from_All (IsGranted grants) hosts are.each) ∙ ap (map (host_of grants)) (names_are are)
+  hosts_are are = each_row hosts (recursion_from_All (HasGrantedSums grants) hosts are.each) ∙ ap (map (host_of grants)) (names_are are)
     where
-      each_row : (hosts : List HostSum) → AllByRecursion (IsGranted grants) hosts → map host_row hosts ≡ map (host_of grants) (map (λ (h : HostSum). h.name) hosts)
+      each_row : (hosts : List HostSum) → AllByRecursion (HasGrantedSums grants) hosts → map host_row hosts ≡ map (host_of grants) (map (λ (h : HostSum). h.name) hosts)
       each_row [] each = refl
       each_row (h ∷ hosts) each = λ i. host_cells h.name (each.0.total i) (each.0.count i) ∷ each_row hosts each.1 i
 
@@ -79,7 +79,7 @@ module _ (grants : List Grant) where
   with_rise : (names : List (List ℕ)) → Ascends below names → IsAscending (λ a b. by_name a b ≡ Less) (all_with names)
   with_rise names up = ascending-map (λ a b. by_name a b ≡ Less) (host_with grants) names (ascends below names up)
 
-  with_each : (names : List (List ℕ)) → ((n : List ℕ) → Has names n → Has (hosts_of grants) n) → AllByRecursion (IsGranted grants) (all_with names)
+  with_each : (names : List (List ℕ)) → ((n : List ℕ) → Has names n → Has (hosts_of grants) n) → AllByRecursion (HasGrantedSums grants) (all_with names)
   with_each [] there = tt
   with_each (n ∷ names) there = (record { total = refl; count = refl; some = some_grant grants n (there n (inl refl)) }, with_each names (λ m has. there m (inr has)))
 
@@ -91,7 +91,7 @@ module _ (grants : List Grant) where
   hosts_with : AreHosts grants (all_with (hosts_of grants))
   hosts_with = record {
     rise = pairs_rise by_name _ (in_pairs by_name _ (with_rise (hosts_of grants) (once grants)));
-    each = All-from_recursion (IsGranted grants) (all_with (hosts_of grants)) (with_each (hosts_of grants) (λ n has. has));
+    each = All-from_recursion (HasGrantedSums grants) (all_with (hosts_of grants)) (with_each (hosts_of grants) (λ n has. has));
     listed = All-from_recursion (λ (g : Grant). IsListed (all_with (hosts_of grants)) g.host) grants (all_from (λ (g : Grant). IsListed (all_with (hosts_of grants)) g.host) grants (λ g has. with_listed (hosts_of grants) g.host (host_there grants g has)));
   }
 

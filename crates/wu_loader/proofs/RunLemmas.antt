@@ -11,7 +11,7 @@ use Rattle.std.proofs.lemmas.List.Sums.{length-filter, sum_by-cons}
 use Rattle.wu_core.specs.Hosts.{credit_of, grants_of, is_to}
 use Rattle.wu_core.specs.declared.workunit.Grant.{Grant}
 use Rattle.wu_store.proofs.GrantSums.{same_count, same_credit}
-use Rattle.wu_loader.specs.Granting.{by_host, referred, AreHosts, IsGranted, IsListed, IsUngranted, IsWrongHost}
+use Rattle.wu_loader.specs.Granting.{by_host, referred, AreHosts, HasGrantedSums, IsListed, IsUngranted, IsWrongHost}
 use Rattle.wu_schema.specs.declared.rows.HostSum.{HostSum}
 
 -- ---- references to grants
@@ -135,18 +135,18 @@ module _ (grants run : List (Bor Grant)) (host : HostSum) (is : referred run ≡
   pub run_count : grants_of (referred grants) host.name ≡ length run
   run_count = sym (length-filter (is_to host.name) (referred grants)) ∙ ap (λ gs. length gs) (sym is) ∙ length-map run (λ (g : Bor Grant). g.now)
 
-  pub granted_by : host.total ≡ sum_by (λ (g : Bor Grant). g.now.credit) run → host.grants ≡ length run → 0 < host.grants → IsGranted (referred grants) host
+  pub granted_by : host.total ≡ sum_by (λ (g : Bor Grant). g.now.credit) run → host.grants ≡ length run → 0 < host.grants → HasGrantedSums (referred grants) host
   granted_by total count some = record { total = total ∙ sym run_credit; count = count ∙ sym run_count; some = some }
 
-  pub credit_by : IsGranted (referred grants) host → host.total ≡ sum_by (λ (g : Bor Grant). g.now.credit) run
+  pub credit_by : HasGrantedSums (referred grants) host → host.total ≡ sum_by (λ (g : Bor Grant). g.now.credit) run
   credit_by granted = granted.total ∙ run_credit
 
-  pub counted_by : IsGranted (referred grants) host → host.grants ≡ length run
+  pub counted_by : HasGrantedSums (referred grants) host → host.grants ≡ length run
   counted_by granted = granted.count ∙ run_count
 
 -- ---- grants in another order
 
-granted_moved : (xs ys : List Grant) → IsPermutation xs ys → (host : HostSum) → IsGranted ys host → IsGranted xs host
+granted_moved : (xs ys : List Grant) → IsPermutation xs ys → (host : HostSum) → HasGrantedSums ys host → HasGrantedSums xs host
 granted_moved xs ys moved host is = record { total = is.total ∙ same_credit xs ys moved host.name; count = is.count ∙ same_count xs ys moved host.name; some = is.some }
 
 module _ (xs ys : List Grant) (moved : IsPermutation xs ys) where

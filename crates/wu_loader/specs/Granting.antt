@@ -23,7 +23,7 @@ abbrev pub by_host : Bor Grant → Bor Grant → Ordering
 by_host one other = slice_cmp nat_cmp one.now.host other.now.host
 
 -- The host has grants, and its sums are theirs.
-pub record IsGranted (grants : List Grant) (host : HostSum) : Type 0 where
+pub record HasGrantedSums (grants : List Grant) (host : HostSum) : Type 0 where
   pub total : host.total ≡ credit_of grants host.name
   pub count : host.grants ≡ grants_of grants host.name
   pub some : 0 < host.grants
@@ -39,19 +39,19 @@ IsListed hosts name = (k : ℕ) × (d : HostSum) × (k < length hosts) × ((slic
 -- The hosts are in order, each has the sums of its grants, and each host with a grant is there.
 pub record AreHosts (grants : List Grant) (hosts : List HostSum) : Type 0 where
   pub rise : Rise hosts
-  pub each : All (IsGranted grants) hosts
+  pub each : All (HasGrantedSums grants) hosts
   pub listed : All (λ (grant : Grant). IsListed hosts grant.host) grants
 
 -- The host at this place, from 0, is the first that does not have the sums of its grants.
 pub record IsUngranted (grants : List Grant) (hosts : List HostSum) (place : ℕ) : Type 0 where
   pub there : place < length hosts
-  pub before : (k : ℕ) (d : HostSum) → k < place → IsGranted grants (slice_index_or hosts k d)
-  pub other : (d : HostSum) → ¬ IsGranted grants (slice_index_or hosts place d)
+  pub before : (k : ℕ) (d : HostSum) → k < place → HasGrantedSums grants (slice_index_or hosts k d)
+  pub other : (d : HostSum) → ¬ HasGrantedSums grants (slice_index_or hosts place d)
 
 -- Each host has the sums of its grants, and after the last one, at this place, a host with a grant is missing.
 pub record LacksHost (grants : List Grant) (hosts : List HostSum) (place : ℕ) : Type 0 where
   pub behind : place ≡ length hosts
-  pub each : All (IsGranted grants) hosts
+  pub each : All (HasGrantedSums grants) hosts
   pub unlisted : ¬ All (λ (grant : Grant). IsListed hosts grant.host) grants
 
 -- At this place the hosts in order of name first differ from those of the grants: in their order; if that is right, in

@@ -5,7 +5,7 @@ ghost use Rattle.std.specs.List.Sorted.{IsPermutation, IsSorted};
 ghost use Rattle.std.specs.declared.cmp.Ordering.TheVariants.{Less};
 ghost use Rattle.wu_core.specs.Hosts.{hosts_of, is_to};
 ghost use Rattle.wu_schema.specs.Refines.{host_of};
-ghost use Rattle.wu_loader.specs.Granting.{by_host, by_name, referred, AreHosts, IsGranted, IsListed, IsUngranted, IsWrongHost, Rise};
+ghost use Rattle.wu_loader.specs.Granting.{by_host, by_name, referred, AreHosts, HasGrantedSums, IsListed, IsUngranted, IsWrongHost, Rise};
 ghost use Rattle.wu_loader.specs.Rows.{IsStoredGrant};
 ghost use Rattle.wu_loader.specs.Whole.{IsIn, IsNotAbove, UnlessMemory};
 ghost use Rattle.wu_loader.specs.Wrongs.{IsWrongHostRow};
@@ -88,7 +88,7 @@ fn is_counted(host: &HostSum, grants: &[&Grant]) -> bool
 fn is_granted(host: &HostSum, grants: &[&Grant]) -> bool
     // It is true exactly where the host has grants, and its total and count are theirs.
     requires { IsSorted by_host grants.now }
-    ensures { IsTrue result ↔ IsGranted (referred grants.now) host.now }
+    ensures { IsTrue result ↔ HasGrantedSums (referred grants.now) host.now }
 {
     let run = run_of(grants, &host.name);
     is_counted(host, run) && is_credit(host.total, run)
@@ -111,8 +111,8 @@ pub(crate) fn first_out_of_order(hosts: &[HostSum]) -> Option<usize>
 /// Returns the first host that has not what it was granted, or `None` if there is none.
 pub(crate) fn first_ungranted(hosts: &[HostSum], grants: &[&Grant]) -> Option<usize>
     requires { IsSorted by_host grants.now }
-    ensures granted { MatchOption result (All (IsGranted (referred grants.now)) hosts.now)
-        (λ _. ¬ All (IsGranted (referred grants.now)) hosts.now) }
+    ensures granted { MatchOption result (All (HasGrantedSums (referred grants.now)) hosts.now)
+        (λ _. ¬ All (HasGrantedSums (referred grants.now)) hosts.now) }
     ensures within { IfSome result (λ place. place < length hosts.now) }
     ensures told { IfSome result (IsUngranted (referred grants.now) hosts.now) }
 {

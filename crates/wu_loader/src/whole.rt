@@ -40,7 +40,8 @@ impl<T: FromRow + Drop> RowsOf<T> {
         // After `Ok` these are the rows.
         ensures { IfOk result (λ read. read ≡ rows.items) }
     {
-        let mut values = Vec::with_capacity(alloc, rows.len())?;
+        // no place is taken for values whose rows are still there
+        let mut values = Vec::new(alloc);
         let mut rest = VecDeque::from(rows);
         'each: while let Some(row) = rest.front() {
             let place = values.len() as u64 + 1;

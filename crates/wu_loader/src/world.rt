@@ -91,8 +91,8 @@ struct Plain {
     imports: Vec<Imported>,
 }
 
-/// Returns what these rows of a project of this version are those of, or the first row that keeps them from being those
-/// of anything, in the order of the tables.
+/// Returns what these rows of a project of this version are those of. Else it returns the first row that keeps them from
+/// that, in the order of the tables.
 fn plain_from(alloc: Global, version: u64, rows: PlainRows) -> Result<Plain, NoWorld>
     // After `Ok` the rows of the tables of every version are those of these values.
     ensures plain { IfOk result (λ plain. ArePlainRowsOf rows (plain_world plain)) }

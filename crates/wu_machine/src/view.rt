@@ -23,7 +23,8 @@ pub enum View {
     Imports,
     /// The imports of this name, in order of kind: its line, and one for each row that was skipped.
     Import(Name),
-    /// A line for each pass: how many workunits it would change at this moment.
+    /// What is open at this moment: how many workunits each pass would change, what is undecided, given up or overdue,
+    /// and the hosts that fail most.
     Status(Moment),
 }
 

@@ -6,7 +6,6 @@ ghost use Rattle.wu_machine.specs.Sound.{IsProject};
 ghost use Rattle.wu_plans.specs.Planning.{PlansFor, PlansProject};
 ghost use Rattle.wu_schema.specs.Calls.{CommitsNothing, CrashAllows, GoesBack};
 ghost use Rattle.wu_store.specs.Changing.{MakesWorlds};
-ghost use Rattle.wu_store.specs.Loading.{ServesUnlessFailed};
 ghost use Rattle.wu_passes.specs.Upgrading.{KeepsPresent, MakesUpgrade, OpensUnlessFailed, ReadsProject, UpgradesEach};
 
 use crate::commit::change_all;
@@ -19,7 +18,6 @@ use wu_store::Change;
 
 /// Returns what the upgrade of the project changes, or its first refusal.
 fn plan_present<'a, S: Alter>(conn: &mut Connection<S>, alloc: Global) -> Result<Plan<'a>, Fault>
-    ensures opens { ServesUnlessFailed S.Store conn.new result }
     ensures reads { PlansProject S.Store conn.old conn.new result (PlansFor AskUpgrade) IsProject }
 {
     let version = known_version(conn)?;

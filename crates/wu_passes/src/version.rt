@@ -4,7 +4,6 @@ ghost use Rattle.wu_plans.specs.Planning.{TellsVersion, PlansWorld};
 ghost use Rattle.wu_machine.specs.Sound.{IsProject};
 ghost use Rattle.wu_passes.specs.Adopting.{IsKnownRow, RefusesRow};
 ghost use Rattle.wu_schema.specs.Calls.{OnAnswer, OnFault};
-ghost use Rattle.wu_store.specs.Loading.{ServesUnlessFailed};
 
 use sqlite::{Alter, Connection};
 use wu_core::Fault;
@@ -15,7 +14,6 @@ use wu_schema::{check_version, version_of};
 /// A later version is `NewSchema`. `NotAProject` means that no project is there any more.
 pub fn known_version<S: Alter>(conn: &mut Connection<S>) -> Result<u64, Fault>
     // The connection is open afterwards, except after `Memory` and `Broken`.
-    ensures opens { ServesUnlessFailed S.Store conn.new result }
     // It only reads, and never answers `Ended`.
     // The version is that of each world that the tables represent.
     // Without a limit on steps, over a world that commands run over, `NotAProject` is not returned.

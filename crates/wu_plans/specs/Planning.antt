@@ -1,5 +1,5 @@
 -- The plan of a command: its answer and its changes, computed before anything is changed.
-use Rattle.std.specs.Prelude.{◌≡◌, ◌≢◌, ◌⊎◌, ℕ, ◌+◌, ◌==◌, ◌&&◌, Bool, true, false, bytes_eq, if◌then◌else◌, List, [], ◌∷◌, ◌++◌, map, length, Some, None, Result, Ok, Err, find, IfErr, IfOk, MatchResult}
+use Rattle.std.specs.Prelude.{◌≡◌, ◌≢◌, ◌⊎◌, ℕ, ◌+◌, ◌==◌, ◌&&◌, Bool, true, false, bytes_eq, if◌then◌else◌, List, [], ◌∷◌, ◌++◌, map, length, Some, None, Result, Ok, Err, find, IfErr, IfOk, MatchResult, ⊤}
 use Rattle.std.specs.List.{enumerate_from}
 use Rattle.std.specs.Borrow.{Bor}
 use Rattle.sqlite.specs.Held.{Held}
@@ -153,14 +153,25 @@ pub record IsNewClasses (given : Given) (rows : List HostClass) (plan : Plan) : 
 
 -- ---- what a call that reads reports of the tables, and of each world that they represent
 
-module _ {S T : Type 0} (g : Ghosts S) (old new : Held S) (result : Result T Fault) (Finds : Result T Fault → World → Type 0) (Can : World → Type 0) where
-  -- A plan: it only reads, the tables represent the world, and the fault is not that the session has ended.
-  abbrev pub PlansWorld : Type 0
-  PlansWorld = Reads g old new result (λ fault. fault ≢ Ended) Refines Finds Can
+module _ {S T : Type 0} (g : Ghosts S) (old new : Held S) (result : Result T Fault) where
+  module _ (Asked : Type 0) (Finds : Result T Fault → World → Type 0) (Can : World → Type 0) where
+    -- A plan: it only reads, the tables represent the world, and the fault is not that the session has ended. Where this
+    -- holds, the connection is open afterwards, except after `Memory` and `Broken`.
+    abbrev pub PlansWorldIf : Type 0
+    PlansWorldIf = Reads g old new result Asked (λ fault. fault ≢ Ended) Refines Finds Can
 
-  -- Likewise of a world with its queue.
-  abbrev pub PlansProject : Type 0
-  PlansProject = Reads g old new result (λ fault. fault ≢ Ended) StandsFor Finds Can
+    -- Likewise of a world with its queue.
+    abbrev pub PlansProjectIf : Type 0
+    PlansProjectIf = Reads g old new result Asked (λ fault. fault ≢ Ended) StandsFor Finds Can
+
+  module _ (Finds : Result T Fault → World → Type 0) (Can : World → Type 0) where
+    -- A plan of which the connection is open afterwards, except after `Memory` and `Broken`.
+    abbrev pub PlansWorld : Type 0
+    PlansWorld = PlansWorldIf ⊤ Finds Can
+
+    -- Likewise of a world with its queue.
+    abbrev pub PlansProject : Type 0
+    PlansProject = PlansProjectIf ⊤ Finds Can
 
 -- The answer is whether the name is taken by a workunit or an archived row, or it is a fault of the store.
 abbrev pub KnowsTaken : List ℕ → Result Bool Fault → World → Type 0

@@ -7,12 +7,11 @@ ghost use Rattle.wu_core.specs.declared.fault.Fault.TheVariants.{Memory};
 ghost use Rattle.wu_core.specs.Limits.{most_workunits};
 ghost use Rattle.wu_feed.specs.Limits.{most_rows};
 ghost use Rattle.wu_machine.specs.Batches.{new_workunit};
-ghost use Rattle.wu_plans.specs.Planning.{additions, FindsFree, IsNewBatch, KnowsTaken, KnowsUsed, PlansBatch, PlansJobs, PlansNew, RefusesName, PlansWorld, texts_of};
+ghost use Rattle.wu_plans.specs.Planning.{additions, FindsFree, IsNewBatch, KnowsTaken, KnowsUsed, PlansBatch, PlansJobs, PlansNew, RefusesName, PlansWorld, PlansWorldIf, texts_of};
 ghost use Rattle.wu_machine.specs.Commands.{batch_of};
 ghost use Rattle.wu_machine.specs.Sound.{IsProject};
 ghost use Rattle.wu_schema.specs.Refines.{Refines};
-ghost use Rattle.wu_store.specs.Reads.{Reads, ReadsWorld};
-ghost use Rattle.wu_store.specs.Loading.{ServesUnlessFailed};
+ghost use Rattle.wu_store.specs.Reads.{Reads, ReadsWorld, ReadsWorldIf};
 
 use crate::imports::{applied, batch_source, imported, kept, repeated};
 use crate::plan::Plan;
@@ -29,7 +28,6 @@ use wu_store::{Change, has_archived, has_workunit, import_of, next_number};
 
 /// Returns whether the name belongs to a workunit that is present, or that was archived.
 fn is_taken<S: Alter>(conn: &mut Connection<S>, name: &Name) -> Result<bool, Fault>
-    ensures opens { ServesUnlessFailed S.Store conn.new result }
     // Over a represented world, with no limit on steps, no read is refused.
     ensures reads { ReadsWorld S.Store conn.old conn.new result (KnowsTaken name.now) (λ _. ⊤) }
 {
@@ -47,7 +45,7 @@ fn is_used<'a, S: Alter>(
     name: &'a Name,
 ) -> Result<bool, Fault>
     // Over a represented world, with no limit on steps, no read is refused.
-    ensures reads { ReadsWorld S.Store conn.old conn.new result
+    ensures reads { ReadsWorldIf S.Store conn.old conn.new result ⊥
         (KnowsUsed (texts_of names.old.keys) name.now) (λ _. ⊤) }
     // After `false` the names are those before, in any order, and this one.
     ensures adds { IfOk result (λ used. OnFalse used
@@ -63,7 +61,7 @@ fn is_used<'a, S: Alter>(
 fn check_names<S: Alter>(conn: &mut Connection<S>, alloc: Global, jobs: &[Job]) -> Result<(), Fault>
     requires { length jobs.now ≤ most_rows }
     // Over a represented world, with no limit on steps, no read is refused.
-    ensures { Reads S.Store conn.old conn.new result RefusesName Refines (FindsFree jobs.now)
+    ensures { Reads S.Store conn.old conn.new result ⊥ RefusesName Refines (FindsFree jobs.now)
         (λ _. ⊤) }
 {
     let mut earlier = HashSet::new(alloc);
@@ -161,7 +159,7 @@ fn plan_jobs<'a, S: Alter>(
     jobs: Jobs,
 ) -> Result<Plan<'a>, Fault>
     requires { length jobs ≤ most_rows }
-    ensures { PlansWorld S.Store conn.old conn.new result (PlansJobs batch.now params jobs)
+    ensures { PlansWorldIf S.Store conn.old conn.new result ⊥ (PlansJobs batch.now params jobs)
         IsProject }
 {
     check_names(conn, alloc, jobs.as_slice())?;
@@ -178,7 +176,7 @@ fn plan_new<'a, S: Alter>(
     alloc: Global,
     batch: &'a Batch,
 ) -> Result<Plan<'a>, Fault>
-    ensures { PlansWorld S.Store conn.old conn.new result (PlansNew batch.now) IsProject }
+    ensures { PlansWorldIf S.Store conn.old conn.new result ⊥ (PlansNew batch.now) IsProject }
 {
     let params = read_template(alloc, batch.template.as_slice())?;
     let jobs = read_jobs(alloc, batch.file.as_slice())?;
@@ -193,7 +191,6 @@ pub fn plan_batch<'a, S: Alter>(
     batch: &'a Batch,
 ) -> Result<Plan<'a>, Fault>
     // The connection is open afterwards, except after `Memory` and `Broken`.
-    ensures opens { ServesUnlessFailed S.Store conn.new result }
     // It only reads, and never answers `Ended`.
     // The plan answers the machine's reply and makes the machine's step; or it is the machine's
     // refusal, or a fault of the store.

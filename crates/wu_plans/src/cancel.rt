@@ -3,7 +3,6 @@
 ghost use Rattle.std.specs.Prelude.{IfErr, IfOk};
 ghost use Rattle.wu_plans.specs.Planning.{IsCancelPlan, IsPresentProject, PlansNow, RefusesCancel, PlansWorld};
 ghost use Rattle.wu_machine.specs.Requests.{AskCancel};
-ghost use Rattle.wu_store.specs.Loading.{ServesUnlessFailed};
 
 use crate::copies::copy_of;
 use crate::plan::Plan;
@@ -40,7 +39,6 @@ pub fn plan_cancel<'a, S: Alter>(
     name: &Name,
 ) -> Result<Plan<'a>, Fault>
     // The connection is open afterwards, except after `Memory` and `Broken`.
-    ensures opens { ServesUnlessFailed S.Store conn.new result }
     // It only reads, and never answers `Ended`.
     // The plan gives an undecided workunit up; another one, or an unknown name, is refused as the
     // machine does; or a fault of the store.

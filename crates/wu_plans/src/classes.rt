@@ -4,7 +4,6 @@ ghost use Rattle.std.specs.Prelude.{◌≡◌, IfErr, IfOk, map};
 ghost use Rattle.wu_core.specs.declared.fault.Fault.TheVariants.{Memory};
 ghost use Rattle.wu_machine.specs.Requests.{AskClasses};
 ghost use Rattle.wu_plans.specs.Planning.{given_of, IsNewClasses, IsPresentProject, PlansNow, sets_class, PlansWorld};
-ghost use Rattle.wu_store.specs.Loading.{ServesUnlessFailed};
 
 use crate::imports::{Source, applied, file_source, imported, kept, repeated};
 use crate::plan::Plan;
@@ -52,7 +51,6 @@ pub fn plan_classes<'a, S: Alter>(
     file: &'a RowsFile,
 ) -> Result<Plan<'a>, Fault>
     // The connection is open afterwards, except after `Memory` and `Broken`.
-    ensures opens { ServesUnlessFailed S.Store conn.new result }
     // It only reads, and never answers `Ended`.
     // The plan answers the machine's reply and makes the machine's step; or it is the machine's
     // refusal, or a fault of the store.

@@ -5,8 +5,8 @@ ghost use Rattle.wu_core.specs.declared.fault.Fault.TheVariants.{Memory};
 ghost use Rattle.wu_plans.specs.Planning.{given_of, IsNewFile, IsPresentProject, LeavesRows, PlansNow, PlansRows, TakesRows, PlansWorld};
 ghost use Rattle.wu_machine.specs.Requests.{AskReported, AskSent};
 ghost use Rattle.wu_plans.specs.Touched.{LeavesRow, rule_in, TouchesNamed};
-ghost use Rattle.wu_store.specs.Reads.{ReadsWorld};
-ghost use Rattle.wu_store.specs.Loading.{LoadsNamed, ServesUnlessFailed};
+ghost use Rattle.wu_store.specs.Loading.{LoadsNamed};
+ghost use Rattle.wu_store.specs.Reads.{ReadsWorldIf};
 
 use crate::imports::{Source, file_source, imported, kept, repeated};
 use crate::plan::Plan;
@@ -34,7 +34,7 @@ fn touch<S: Alter>(
 ) -> Result<(), Fault>
     // Over a world whose workunit of this name can be read, with no limit on steps, no read is
     // refused.
-    ensures { ReadsWorld S.Store conn.old conn.new result
+    ensures { ReadsWorldIf S.Store conn.old conn.new result ⊥
         (TouchesNamed name.now touched.old touched.new) (LoadsNamed name.now) }
 {
     if touched.has(name) {
@@ -58,7 +58,7 @@ fn apply_row<R: FileRow, S: Alter>(
     // The row sees what the rows before it left, and a send the class of its host in the world.
     // Over a world whose workunits and classes can be read, with no limit on steps, no read is
     // refused.
-    ensures reads { ReadsWorld S.Store conn.old conn.new result
+    ensures reads { ReadsWorldIf S.Store conn.old conn.new result ⊥
         (LeavesRow (rule_in R.rule R.class_in) row touched.old touched.new) TakesRows }
 {
     touch(conn, alloc, touched, row.workunit())?;
@@ -76,7 +76,7 @@ fn apply_rows<R: FileRow, S: Alter>(
     // Each row sees what the rows before it left; the verdicts are theirs.
     // Over a world whose workunits and classes can be read, with no limit on steps, no read is
     // refused.
-    ensures reads { ReadsWorld S.Store conn.old conn.new result
+    ensures reads { ReadsWorldIf S.Store conn.old conn.new result ⊥
         (LeavesRows (rule_in R.rule R.class_in) rows) TakesRows }
 {
     let mut touched = Touched::new(alloc);
@@ -113,7 +113,7 @@ fn plan_rows<'a, R: FileRow, S: Alter>(
 ) -> Result<Plan<'a>, Fault>
     // The rows are applied or skipped in order, and the file is kept with their verdicts; or a
     // fault of the store.
-    ensures { ReadsWorld S.Store conn.old conn.new result
+    ensures { ReadsWorldIf S.Store conn.old conn.new result ⊥
         (PlansRows (rule_in R.rule R.class_in) (given_of source.now) rows) TakesRows }
 {
     let left = apply_rows(conn, alloc, rows)?;
@@ -127,7 +127,6 @@ fn plan_file<'a, R: FileRow, S: Alter>(
     alloc: Global,
     file: &'a RowsFile,
 ) -> Result<Plan<'a>, Fault>
-    ensures opens { ServesUnlessFailed S.Store conn.new result }
     ensures reads { PlansWorld S.Store conn.old conn.new result
         (PlansNow (R.asks file.now.name file.now.file)) IsPresentProject }
 {
@@ -150,7 +149,6 @@ pub fn plan_sent<'a, S: Alter>(
     file: &'a RowsFile,
 ) -> Result<Plan<'a>, Fault>
     // The connection is open afterwards, except after `Memory` and `Broken`.
-    ensures opens { ServesUnlessFailed S.Store conn.new result }
     // It only reads, and never answers `Ended`.
     // The plan answers the machine's reply and makes its step, skipped rows changing nothing; or
     // the machine's refusal, or a fault of the store.
@@ -169,7 +167,6 @@ pub fn plan_reported<'a, S: Alter>(
     file: &'a RowsFile,
 ) -> Result<Plan<'a>, Fault>
     // The connection is open afterwards, except after `Memory` and `Broken`.
-    ensures opens { ServesUnlessFailed S.Store conn.new result }
     // It only reads, and never answers `Ended`.
     // The plan answers the machine's reply and makes its step, skipped rows changing nothing; or
     // the machine's refusal, or a fault of the store.

@@ -1,17 +1,16 @@
 //! A pass: what it makes of the workunits that it takes, what it answers and what it changes, before anything is
 //! changed.
 
-ghost use Rattle.std.specs.Prelude.{⊤, ◌≡◌, ◌+◌, ◌≤◌, ◌^◌, ◌++◌, [], true, length, map, None, IfErr, IfOk};
+ghost use Rattle.std.specs.Prelude.{⊤, ◌≡◌, ◌<◌, ◌≤◌, ◌^◌, ◌++◌, [], true, length, map, None, IfErr, IfOk};
 ghost use Rattle.wu_core.specs.declared.fault.Fault.TheVariants.{Memory};
 ghost use Rattle.wu_machine.specs.Machine.{is_limit_right};
 ghost use Rattle.wu_plans.specs.PassPlans.{asked, AddsArchivedRows, AddsFrom, AddsGrants, AddsGiven, HandlesAll, HandlesAlso, IsImageOf, PlansTaken};
 ghost use Rattle.wu_plans.specs.Planning.{IsPresentProject, PlansNow, PlansProject};
 ghost use Rattle.wu_machine.specs.Requests.{AskPass};
-ghost use Rattle.wu_store.specs.Reads.{ReadsWorld};
 ghost use Rattle.wu_store.specs.Changing.{archived_from};
-ghost use Rattle.wu_store.specs.Loading.{Asks, ServesUnlessFailed};
 ghost use Rattle.wu_rules.specs.declared.due.Pass.TheVariants as pass;
 ghost use Rattle.wu_store.specs.declared.changes.Change.TheVariants.{Remove};
+ghost use Rattle.wu_store.specs.Reads.{ReadsWorldIf};
 
 use crate::copies::copy_of;
 use crate::plan::Plan;
@@ -278,8 +277,9 @@ fn and_grants<S: Alter>(
     changes: &mut Vec<Change<'_>>,
     grants: Vec<Grant>,
 ) -> Result<(), Fault>
+    // With a grant, the connection is open afterwards, except after `Memory` and `Broken`.
     // The grants get the next places of the world's, in order.
-    ensures { ReadsWorld S.Store conn.old conn.new result
+    ensures { ReadsWorldIf S.Store conn.old conn.new result (0 < length grants.items)
         (AddsGrants grants.items changes.old.items changes.new.items) (λ _. ⊤) }
 {
     if grants.is_empty() {
@@ -295,8 +295,9 @@ fn and_archived<S: Alter>(
     changes: &mut Vec<Change<'_>>,
     archived: Vec<Archived>,
 ) -> Result<(), Fault>
+    // With a row, the connection is open afterwards, except after `Memory` and `Broken`.
     // The archived rows get the next places of the world's, in order.
-    ensures { ReadsWorld S.Store conn.old conn.new result
+    ensures { ReadsWorldIf S.Store conn.old conn.new result (0 < length archived.items)
         (AddsArchivedRows archived.items changes.old.items changes.new.items) (λ _. ⊤) }
 {
     if archived.is_empty() {
@@ -314,7 +315,7 @@ fn changes_of<'a, S: Alter>(
 ) -> Result<Vec<Change<'a>>, Fault>
     // The changes are those of the workunits, then the grants and the archived rows at the world's
     // next places.
-    ensures { ReadsWorld S.Store conn.old conn.new result (AddsGiven handled.entry) (λ _. ⊤) }
+    ensures { ReadsWorldIf S.Store conn.old conn.new result ⊥ (AddsGiven handled.entry) (λ _. ⊤) }
 {
     let Handled {
         mut changes,
@@ -335,7 +336,7 @@ fn plan_taken<'a, S: Alter>(
 ) -> Result<Plan<'a>, Fault>
     requires { length taken.items ≤ 1000 }
     // Over a represented world, with no limit on steps, no read is refused.
-    ensures { ReadsWorld S.Store conn.old conn.new result (PlansTaken ask.now taken.items)
+    ensures { ReadsWorldIf S.Store conn.old conn.new result ⊥ (PlansTaken ask.now taken.items)
         (λ _. ⊤) }
 {
     let pass = ask.pass;
@@ -371,7 +372,6 @@ fn plan_purge<'a, S: Alter>(
 ) -> Result<Plan<'a>, Fault>
     requires right { is_limit_right ask.now.pass ask.now.limit ask.now.min_age ≡ true }
     requires purge { ask.now.pass ≡ pass.Purge }
-    ensures opens { ServesUnlessFailed S.Store conn.new result }
     ensures reads { PlansProject S.Store conn.old conn.new result (PlansNow (asked ask.now))
         IsPresentProject }
 {
@@ -394,7 +394,6 @@ fn plan_images<'a, S: Alter>(
     ask: &Ask,
 ) -> Result<Plan<'a>, Fault>
     requires { is_limit_right ask.now.pass ask.now.limit ask.now.min_age ≡ true }
-    ensures opens { ServesUnlessFailed S.Store conn.new result }
     ensures reads { PlansProject S.Store conn.old conn.new result (PlansNow (asked ask.now))
         IsPresentProject }
 {
@@ -414,7 +413,6 @@ pub fn plan_pass<'a, S: Alter>(
     // The limit is from 1 to 1000, and the least age of a purge at most a year.
     requires { is_limit_right ask.now.pass ask.now.limit ask.now.min_age ≡ true }
     // The connection is open afterwards, except after `Memory` and `Broken`.
-    ensures opens { ServesUnlessFailed S.Store conn.new result }
     // It only reads, and never answers `Ended`.
     // The plan answers the number of its workunits and makes the machine's step, each image in its
     // place; or a fault of the store.

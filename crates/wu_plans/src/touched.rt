@@ -27,7 +27,7 @@ pub trait FileRow: Drop {
     ghost use Rattle.wu_machine.specs.FileRows.{KeepsIdentity, Rule, unknown};
     ghost use Rattle.wu_machine.specs.Requests.{Request};
     ghost use Rattle.wu_plans.specs.Touched.{AreRowsOf, rule_in};
-    ghost use Rattle.wu_store.specs.Reads.{FindsAt, ReadsClassed};
+    ghost use Rattle.wu_store.specs.Reads.{FindsAt, ReadsClassedIf};
 
     /// What a file of this name and this content asks of the machine.
     ghost asks: { List ℕ → List ℕ → Request };
@@ -63,7 +63,7 @@ pub trait FileRow: Drop {
         // It only reads, and a fault is `Memory`, `Broken` or `NotAProject`.
         // For a send the class is that of its host in the world; a report needs none, and gets 0.
         // Over a world whose classes can be read, with no limit on steps, no read is refused.
-        ensures { ReadsClassed S.Store conn.old conn.new result
+        ensures { ReadsClassedIf S.Store conn.old conn.new result ⊥
             (FindsAt (λ world. class_in world.classes self.now))
             (λ world. AreClassed world.classes) };
 

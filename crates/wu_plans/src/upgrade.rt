@@ -1,7 +1,8 @@
 //! What bringing a project's schema to the present version answers and changes, before anything is changed.
 
-ghost use Rattle.wu_plans.specs.Planning.{IsOfVersion, PlansUpgrade, PlansWorld};
-ghost use Rattle.wu_store.specs.Loading.{StaysUnlessFailed};
+ghost use Rattle.wu_plans.specs.Planning.{IsOfVersion, PlansUpgrade, PlansWorldIf};
+ghost use Rattle.sqlite.specs.Held.{state};
+ghost use Rattle.std.specs.Prelude.{IsTrue};
 
 use crate::plan::Plan;
 use sqlite::{Alter, Connection};
@@ -20,13 +21,12 @@ pub fn plan_upgrade<'a, S: Alter>(
     version: u64,
 ) -> Result<Plan<'a>, Fault>
     // An open connection stays open, except after `Memory` and `Broken`.
-    ensures opens { StaysUnlessFailed S.Store conn.old conn.new result }
     // It only reads, and never answers `Ended`.
     // The plan answers this version and the present one, at which the world then is; at the present
     // version it changes nothing.
     // Over a project of this version, with no limit on steps, no read is refused.
-    ensures reads { PlansWorld S.Store conn.old conn.new result (PlansUpgrade version)
-        (IsOfVersion version) }
+    ensures reads { PlansWorldIf S.Store conn.old conn.new result
+        (IsTrue (state S.Store conn.old).is_open) (PlansUpgrade version) (IsOfVersion version) }
 {
     let mut changes = Vec::new(alloc);
     if version < PRESENT_VERSION {

@@ -39,8 +39,8 @@ module _ {S W E : Type 0} {c : calls.Ghosts Host} {s : start.Ghosts S} {g : Ghos
   RunsProcess (Err error) =
       TellsTrouble {T = Unit {0}} told_of err_old err_new (Err (unheard (error_kind error))) end.status end.is_told × (new ≡ old) × (in_new ≡ in_old) × (end.left ≡ None)
 
--- The process ends with the status of such a run, over some words, some outputs of these types, what it read of some
--- input, and any start of its database file.
+-- The process ends with the status of such a run. It is a run over some words, some outputs of these types, what it read
+-- of some input, and any start of its database file.
 pub record EndsAsRun {S W E : Type 0} {c : calls.Ghosts Host} {s : start.Ghosts S} (g : Ghosts (Modelled Host S c s)) (contents : W → Option (List ℕ)) (told_of : E → Option (List ℕ)) (status : ℕ) : Type 0 where
   pub words : Result (Vec (String Global) Global) Error
   pub old : W

@@ -173,8 +173,8 @@ fn is_log_of_another(rt: &HostRuntime, log: &str, path: &str) -> Result<bool, Fa
     }
 }
 
-/// Returns whether what lies at the path of a database's log begins as no log does, or whether what lies there or at that
-/// of its journal is no file, or whether the log is seen to be that of another database. The only fault is `Memory`.
+/// Returns whether something else lies at the path of a database's log or journal: what is no file, or a log that begins
+/// as none does. So does a log that is seen to be that of another database. The only fault is `Memory`.
 pub fn has_foreign_log(rt: &HostRuntime, path: &str) -> Result<bool, Fault>
     // The only fault is `Memory`.
     ensures { IfErr result (λ fault. fault ≡ Memory) }

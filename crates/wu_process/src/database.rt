@@ -130,7 +130,7 @@ fn open_and_serve<S: Start, R: BufRead, O: Write, E: Write>(
     // that is reported.
     ensures serves { OpensAndServes O.contents path.now out.old out.new
         (R.remaining input.old) (R.remaining input.new) result.0 result.1 }
-    // Where no line is read, nothing is written on standard error.
+    // Where the database is not opened, or not adopted, nothing is written on standard error.
     ensures silent { IfErr result.0 (λ _. err.new ≡ err.old) }
 {
     let files = HostFiles::new(rt);
@@ -160,7 +160,7 @@ pub fn hold_session<S: Start, R: BufRead, O: Write, E: Write>(
     // Or it is not opened, which is reported, no line is read, and nothing goes out.
     ensures serves { ServesAt O.contents path.now out.old out.new
         (R.remaining input.old) (R.remaining input.new) result.0 result.1 }
-    // Where no line is read, nothing is written on standard error.
+    // Where the database is not opened, or not adopted, nothing is written on standard error.
     ensures silent { IfErr result.0 (λ _. err.new ≡ err.old) }
 {
     match bar(rt, path) {

@@ -7,7 +7,6 @@ use crate::database::LeftDatabase;
 use crate::expected::{Expected, expected_of};
 use crate::files::HostFiles;
 use sqlite_disk::Disk;
-use std::alloc::Global;
 use std::fs;
 use std::io::{self, ErrorKind, Write};
 use std::time::SystemTime;
@@ -150,12 +149,16 @@ fn template_of(order: &Order) -> Option<&str> {
     }
 }
 
-/// Returns whether the template at the path allows fewer instances than a quorum needs.
-fn never_succeeds(alloc: Global, files: &HostFiles<'_>, path: &str) -> bool {
-    let Ok(Some(text)) = files.read(path, LONGEST_TEMPLATE) else {
+/// Returns whether the template at the path allows fewer instances than a quorum needs. Only a file is read, since a pipe
+/// can be read once alone.
+fn never_succeeds(rt: &HostRuntime, path: &str) -> bool {
+    if !fs::metadata(rt, path).is_ok_and(|found| found.is_file()) {
+        return false;
+    }
+    let Ok(Some(text)) = HostFiles::new(rt).read(path, LONGEST_TEMPLATE) else {
         return false;
     };
-    match read_template(alloc, text.as_slice()) {
+    match read_template(rt.alloc(), text.as_slice()) {
         Ok(params) => params.max_total_results() < params.min_quorum(),
         Err(_) => false,
     }
@@ -215,17 +218,19 @@ impl Hints {
                 tell_why(rt, path, left, err);
             }
         }
-        let is_done = status == 0 && matches!(left, Some(LeftDatabase::Closed(_)));
-        if is_done && self.came_before(rt) {
+        if status != 0 || !matches!(left, Some(LeftDatabase::Closed(_))) {
+            return;
+        }
+        if self.came_before(rt) {
             let _ = writeln!(err, "came before: nothing done");
         }
-        if let Some(path) = template_of(&self.order) {
-            if never_succeeds(rt.alloc(), &HostFiles::new(rt), path) {
-                let _ = writeln!(
-                    err,
-                    "{path}: max_total_results is below min_quorum, so no job can succeed"
-                );
-            }
+        if let Some(path) = template_of(&self.order)
+            && never_succeeds(rt, path)
+        {
+            let _ = writeln!(
+                err,
+                "{path}: max_total_results is below min_quorum, so no job can succeed"
+            );
         }
     }
 }

@@ -60,7 +60,7 @@ pub struct End<D: Disk> {
 /// What was done for the words of a process, and what is left of the database that they name.
 #[derive(Drop)]
 enum Ran<D: Disk> {
-    /// A line, a script, a check or an explanation, up to the first trouble.
+    /// All but a session, up to the first trouble.
     Done(Result<(), Trouble>, Option<LeftDatabase<D>>),
     /// A session: the status that it gave, or the trouble that kept it from its first line.
     Served(Result<u8, Trouble>, Option<LeftDatabase<D>>),

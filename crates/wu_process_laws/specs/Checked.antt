@@ -65,8 +65,9 @@ IsWant _ = ⊥
 pub record TellsOfFiles (image : Image) (before after : Option (List ℕ)) (done : Result (Unit {0}) Trouble) : Type 0 where
   -- If `ok` is reported, the files hold a sound project of a known version with the printed numbers.
   pub sound : done ≡ Ok tt → ReportsSound image before after
-  -- If the files hold a sound project of a known version, no trouble is reported except out of memory, a failed copy, a
-  -- failed output, or a name that something has and that its upgrade gives. An upgrade of the present version gives none.
+  -- If the files hold a sound project of a known version, no trouble is reported, with four exceptions. These are out of
+  -- memory, a failed copy, a failed output, and a name that something has and that its upgrade gives. An upgrade of the
+  -- present version gives none.
   pub unsound : (world : World) → HoldsWorld image world → IsSound world → IsKnownVersion world.version
       → IfErr done (λ told. IsWant told ⊎ IsTakenName image world told)
   -- If something is reported to be wrong, it is wrong.

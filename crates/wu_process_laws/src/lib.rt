@@ -92,9 +92,9 @@ pub fn run_and_leave<S: Start, R: BufRead, O: Write, E: Write>(
 /// reported to be wrong. Of a sound project nothing is reported but a name that keeps it from an upgrade.
 pub fn a_check_is_true<O: Write>()
     // `ok` means that the files hold a sound project of a known version, with the printed numbers.
-    // Of files that hold a sound project a check reports only `ok`, a fault of memory, of its copy
-    // or of the output, or a name that something has and its upgrade gives. What it reports to be
-    // wrong is wrong, where no row is shorter than its table.
+    // Of a sound project a check reports only `ok`, out of memory, a failed copy or output, or a name
+    // that its upgrade gives. What it reports to be wrong is wrong, where no row is shorter than its
+    // table.
     ensures { EachCheckIsTrue O.contents }
 {}
 

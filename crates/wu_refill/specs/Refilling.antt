@@ -24,8 +24,8 @@ pub record Refills (world : World) (changes : List Change) : Type 0 where
   pub all : changes
       ≡ Next world.next_number ∷ map sets_class world.classes ++ map Add world.workunits ++ grants ++ archived_from 1 world.archived ++ map Keep kept
 
--- The world is one that changes make of an empty one: it is of the present version, its workunits are in order of
--- number, its hosts with a class are in order of name, and its imports may be kept, with verdicts in their range.
+-- The world is one that changes make of an empty one. It is of the present version, its workunits are in order of number,
+-- and its hosts with a class in order of name. Its imports may be kept, with verdicts in their range.
 pub record MayBeRefilled (world : World) : Type 0 where
   pub version : IsUpToDate world
   pub workunits : IsInOrder world

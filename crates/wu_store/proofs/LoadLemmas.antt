@@ -11,7 +11,7 @@ use Rattle.std.proofs.lemmas.List.{get_or-map, take_more}
 use Rattle.std.proofs.lemmas.List.Elements.{All-weaker}
 use Rattle.wu_core.specs.Formed.{IsInstance, IsWorkunit}
 use Rattle.wu_core.specs.Limits.{most_instances}
-use Rattle.wu_store.specs.Reads.{FindsAt, ReadsWorld}
+use Rattle.wu_store.specs.Reads.{FindsAt, ReadsWorldIf}
 use Rattle.wu_schema.proofs.CallLemmas.{back_none}
 use Rattle.wu_schema.proofs.AskingLemmas.{survives_none}
 use Rattle.wu_schema.specs.Restoring.{Restores}
@@ -299,16 +299,16 @@ module _ (v w : Workunit) (found : Option Workunit) (world : World) (it : IsBack
   class_can can = (omega (arith, number_back, can.number), subst (λ o. IfSome o IsClass) (sym class_told) can.class)
 
 -- a row that was read, of the first workunit that passes a test, and then its instances
-module _ {S : Type 0} (g : Ghosts S) (old mid new : Held S) (p : Workunit → Bool) (row : Option Row) (result : Result (Option Workunit) Fault) {Could : World → Type 0} (first : ReadsWorld g old mid (Ok row) (FindsAt (λ world. option_map workunit_row (find p world.workunits))) Could) where
+module _ {S : Type 0} (g : Ghosts S) (old mid new : Held S) (p : Workunit → Bool) (row : Option Row) (result : Result (Option Workunit) Fault) {Asked : Type 0} {Could : World → Type 0} (first : ReadsWorldIf g old mid (Ok row) Asked (FindsAt (λ world. option_map workunit_row (find p world.workunits))) Could) where
   there : (world : World) → Refines (state g old).now world → row ≡ option_map workunit_row (find p world.workunits) → IsRowIfThere row (find p world.workunits) world
   there world stands is = first_there p world row (world_rises (state g old).now world stands) is
 
-  pub load_then : ReadsWorld g mid new result (FindsIfThere row) (IsWholeIfThere row) → ReadsWorld g old new result (λ r world. KnowsClasses world → Finds (find p world.workunits) r) (λ world. KnowsClasses world × IsLoadable (find p world.workunits))
+  pub load_then : {More : Type 0} → ReadsWorldIf g mid new result More (FindsIfThere row) (IsWholeIfThere row) → ReadsWorldIf g old new result Asked (λ r world. KnowsClasses world → Finds (find p world.workunits) r) (λ world. KnowsClasses world × IsLoadable (find p world.workunits))
   load_then next = reads_then g old mid new row first result next (λ world stands is found known. found known (find p world.workunits) (there world stands is))
       (λ world stands is can. record { known = can.0; loadable = (find p world.workunits, there world stands is, can.1) })
 
   -- where there are no classes
-  pub early_then : ReadsWorld g mid new result (FindsClassless row) (IsLoadableIfThere row) → ReadsWorld g old new result (λ r world. ¬ KnowsClasses world → Finds (find p world.workunits) r) (λ world. IsLoadable (find p world.workunits))
+  pub early_then : {More : Type 0} → ReadsWorldIf g mid new result More (FindsClassless row) (IsLoadableIfThere row) → ReadsWorldIf g old new result Asked (λ r world. ¬ KnowsClasses world → Finds (find p world.workunits) r) (λ world. IsLoadable (find p world.workunits))
   early_then next = reads_then g old mid new row first result next
       (λ world stands is found early. subst (λ o. Finds o result) (found_classless p world.workunits (stands.rows.classless early).workunits) (found (find p world.workunits) (there world stands is)))
       (λ world stands is can. (find p world.workunits, there world stands is, can))

@@ -1,5 +1,5 @@
 -- What the selections of the passes answer of the queue.
-use Rattle.wu_schema.proofs.Words.{Binary, Bool, Fault, FailsToQuery, Ghosts, Held, IfErr, List, Name, None, NotAProject, Option, Result, Row, Shown, Some, State, Term, Vec, [], ap, arith, binary, col, codes, column, equal, filter, fault_of, holds, inl, inr, is_true, length, list_all, map, map-map, nat_le, nat_tests, number, number_or_null, refl, state, subst, sym, take, true, false, ℕ, ◌&&◌, ◌∙◌, ◌∷◌, ◌≡◌, ◌≢◌, ◌⊎◌}
+use Rattle.wu_schema.proofs.Words.{Binary, Bool, Fault, FailsToQuery, Ghosts, Held, IfErr, List, Name, None, NotAProject, Option, Result, Row, Shown, Some, State, Term, Vec, [], ap, arith, binary, col, codes, column, equal, filter, fault_of, holds, inl, inr, is_true, length, list_all, map, map-map, nat_le, nat_tests, number, number_or_null, refl, state, subst, sym, take, true, false, ℕ, ⊤, ◌&&◌, ◌∙◌, ◌∷◌, ◌≡◌, ◌≢◌, ◌⊎◌}
 use Rattle.std.specs.Option.{option_map_or}
 use Rattle.sqlite_sql.specs.declared.ops.BinaryOp.TheVariants as by
 use Rattle.sqlite_sql.specs.declared.ops.CompareOp.TheVariants as compare
@@ -17,20 +17,12 @@ use Rattle.wu_schema.proofs.ReadLemmas.{if_ok, if_err}
 use Rattle.wu_schema.proofs.SelectLemmas.{Asked, Fits, IsTyped, Test, compiles, parsed_of, select_of, tests_of}
 use Rattle.wu_schema.proofs.ToldLemmas.{asked_told}
 use Rattle.wu_store.specs.Loading.{IsStoreFault}
-use Rattle.wu_store.specs.Queues.{AnswersQueue, NotRefusedQueue, first_marked, is_marked, marked_text}
+use Rattle.wu_store.specs.Queues.{first_marked, is_marked, marked_text, AnswersQueueIf}
 use Rattle.wu_store.proofs.AskLemmas.{never_refused}
 use Rattle.wu_store.proofs.EqualLemmas.{number_at_least, number_at_most, number_equal}
 use Rattle.wu_store.proofs.OrderAnswers.{sorted, sure_in_order}
 use Rattle.wu_store.proofs.ReadAnswers.{kept_mapped}
 use Rattle.wu_store.proofs.SelectTexts.{limit_place, mark_parameters, mark_tests, marked_asked, pass_asked, pass_fits}
-
--- what a selection does and answers, and that it is not refused
-pub record HasAskedQueue {S A : Type 0} (g : Ghosts S) (old new : Held S) (result : Result (Vec Row A) Fault) (answer : List (ℕ × Marks) → List Row) : Type 0 where
-  pub asks : Asks g old new result
-  pub opens : ServesUnlessFailed g new result
-  pub answers : AnswersQueue g old new result answer
-  pub fault : IfErr result IsStoreFault
-  pub unrefused : NotRefusedQueue g old new result
 
 module _ (asked : Asked) (fits : (tree : ℕ) → Fits (codes "queue") (queue_at tree) asked) (params : Row) where
   abbrev passing : ℕ → Row → Bool
@@ -47,13 +39,13 @@ module _ (asked : Asked) (fits : (tree : ℕ) → Fits (codes "queue") (queue_at
         (sym h.1 ∙ is)
 
     pub asked_queue : {A : Type 0} (answer : List (ℕ × Marks) → List Row) → ((rows : List Row) → Shown asked.text params (state g old) (state g new) rows → (marked : List (ℕ × Marks)) → HasQueue (state g old).now marked → rows ≡ answer marked) → (r : Result (Vec Row A) Fault)
-        → (IsSelect asked.text → Asks g old new r) → (IsSelect asked.text → ServesUnlessFailed g new r) → ShowsAll g old new r asked.text given → FailsAll g old new r asked.text given → IfErr r IsStoreFault → HasAskedQueue g old new r answer
+        → (IsSelect asked.text → Asks g old new r) → (IsSelect asked.text → ServesUnlessFailed g new r) → ShowsAll g old new r asked.text given → FailsAll g old new r asked.text given → IfErr r IsStoreFault → AnswersQueueIf g old new r ⊤ answer
     asked_queue answer found r asks opens shows fails told = record {
       asks = asks selects;
-      opens = opens selects;
-      answers = λ clean. if_ok r _ _ (λ rows h. found rows.items (subst (λ ps. Shown asked.text ps (state g old) (state g new) rows.items) same h)) (shows clean);
+      opens = λ asked. opens selects;
       fault = told;
-      unrefused = λ clean marked q limit. if_err r _ _ (never_told marked q limit) (fails clean);
+      found = λ clean marked q. if_ok r _ _ (λ rows h. found rows.items (subst (λ ps. Shown asked.text ps (state g old) (state g new) rows.items) same h) marked q) (shows clean);
+      unrefused = λ clean marked q any limit. if_err r _ _ (never_told marked q limit) (fails clean);
     }
 
 -- ---- by the marks of a workunit, up to a limit
@@ -126,7 +118,7 @@ module _ (by n : ℕ) where
 
   module _ {S A : Type 0} (g : Ghosts S) (old new : Held S) (r : Result (Vec Row A) Fault) (pass : Pass) where
     pub pass_asks : (text : List ℕ) → text ≡ marked_text pass → (given : Row) → given ≡ given_of pass
-        → (IsSelect text → Asks g old new r) → (IsSelect text → ServesUnlessFailed g new r) → ShowsAll g old new r text given → FailsAll g old new r text given → IfErr r IsStoreFault → HasAskedQueue g old new r (first_marked n (is_marked pass by))
+        → (IsSelect text → Asks g old new r) → (IsSelect text → ServesUnlessFailed g new r) → ShowsAll g old new r text given → FailsAll g old new r text given → IfErr r IsStoreFault → AnswersQueueIf g old new r ⊤ (first_marked n (is_marked pass by))
     pass_asks text is given same asks opens shows fails told =
         let there = subst (λ (t : List ℕ). (IsSelect t → Asks g old new r) × (IsSelect t → ServesUnlessFailed g new r) × ShowsAll g old new r t given × FailsAll g old new r t given) is (asks, opens, shows, fails) in
         asked_queue (pass_asked pass) (pass_fits pass) (given_of pass) g old new given same (few_as pass) (typed_as pass) (first_marked n (is_marked pass by))

@@ -1,23 +1,22 @@
 -- What each statement makes of the queue, and what is asked about it.
-use Rattle.std.specs.Prelude.{◌≡◌, ◌≢◌, ℕ, ◌==◌, nat_le, Bool, false, not, List, [], ◌∷◌, filter, map, take, None, Result, Vec, IfErr, if◌then◌else◌}
+use Rattle.std.specs.Prelude.{◌≡◌, ℕ, ◌==◌, nat_le, Bool, false, not, List, [], ◌∷◌, filter, map, take, Result, Vec, IfOk, if◌then◌else◌}
 use Rattle.std.specs.Option.{option_map_or}
 use Rattle.std.specs.Ordering.{nat_cmp, match_ordering}
 use Rattle.sqlite.specs.Effect.{Database}
-use Rattle.sqlite.specs.Held.{Held, state}
+use Rattle.sqlite.specs.Held.{Held}
 use Rattle.sqlite.specs.Order.{Row}
-use Rattle.sqlite.specs.State.{HasCleanDisk}
 use Rattle.sqlite.specs.Store.{Ghosts}
 use Rattle.wu_core.specs.World.{World}
 use Rattle.wu_core.specs.declared.fault.Fault.{Fault}
-use Rattle.wu_core.specs.declared.fault.Fault.TheVariants.{NotAProject}
 use Rattle.wu_core.specs.declared.marks.Marks.{Marks}
 use Rattle.wu_rules.specs.declared.due.Pass.{Pass}
 use Rattle.wu_rules.specs.declared.due.Pass.TheVariants.{Transition, Validate, Assimilate, Delete, Purge}
-use Rattle.wu_schema.specs.Calls.{OnAnswer}
+use Rattle.wu_schema.specs.Faults.{IsStoreFault}
 use Rattle.wu_schema.specs.Queue.{HasQueue}
 use Rattle.wu_schema.specs.Refines.{Refines}
 use Rattle.wu_schema.specs.Stored.{number}
 use Rattle.wu_store.specs.declared.texts.TheConstants.{SELECT_TO_ASSIMILATE, SELECT_TO_DELETE, SELECT_TO_PURGE, SELECT_TO_VALIDATE, SELECT_TO_WAKE}
+use Rattle.wu_store.specs.Reads.{Reads}
 
 -- The list with this at its place in order of number; it replaces what has its number.
 abbrev pub at_place : {X : Type 0} → (X → ℕ) → X → List X → List X
@@ -76,10 +75,8 @@ marked_text Assimilate = SELECT_TO_ASSIMILATE.now
 marked_text Delete = SELECT_TO_DELETE.now
 marked_text Purge = SELECT_TO_PURGE.now
 
--- The answer is what a queue that is there has.
-abbrev pub AnswersQueue : {S A : Type 0} → Ghosts S → Held S → Held S → Result (Vec Row A) Fault → (List (ℕ × Marks) → List Row) → Type 0
-AnswersQueue g old new result answer = OnAnswer g old new result (λ db rows. (marked : List (ℕ × Marks)) → HasQueue db marked → rows.items ≡ answer marked)
-
--- If the queue is there and steps have no limit, the question is not refused.
-abbrev pub NotRefusedQueue : {S T : Type 0} → Ghosts S → Held S → Held S → Result T Fault → Type 0
-NotRefusedQueue g old new result = HasCleanDisk (state g new) → (marked : List (ℕ × Marks)) → HasQueue (state g old).now marked → old.step_limit ≡ None → IfErr result (λ fault. fault ≢ NotAProject)
+-- The call only reads, and its answer is what a queue that is there has. Where this holds, the connection is open
+-- afterwards, except after `Memory` and `Broken`, and over a queue with no limit on steps `NotAProject` is not returned.
+abbrev pub AnswersQueueIf : {S A : Type 0} → Ghosts S → Held S → Held S → Result (Vec Row A) Fault → Type 0 → (List (ℕ × Marks) → List Row) → Type 0
+AnswersQueueIf g old new result Asked answer =
+    Reads g old new result Asked IsStoreFault HasQueue (λ r marked. IfOk r (λ rows. rows.items ≡ answer marked)) (λ _. Asked)

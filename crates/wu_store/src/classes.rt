@@ -5,8 +5,7 @@ ghost use Rattle.wu_schema.specs.Calls.{Does, StatementFrame, TransactionFrame};
 ghost use Rattle.wu_schema.specs.Made.{host_class_table, workunit_class_table};
 ghost use Rattle.wu_schema.specs.Others.{Spares, SparesBeside};
 ghost use Rattle.wu_store.specs.Classes.{AddsClass, ChangesClasses, FillsClasses, LoadsClass, LoadsHostClass, PutsClass, UpgradesClasses, class_named, class_numbered, with_classed_host, with_set_class};
-ghost use Rattle.wu_store.specs.Reads.{FindsAt, ReadsClassed};
-ghost use Rattle.wu_store.specs.Loading.{ServesUnlessFailed};
+ghost use Rattle.wu_store.specs.Reads.{FindsAt, ReadsClassed, ReadsClassedIf};
 
 use crate::statements::{ask_row, key_of, set_version, signed};
 use crate::texts::{
@@ -125,13 +124,12 @@ pub fn class_of_workunit<S: Alter>(
 ) -> Result<Option<u32>, Fault>
     // For a number below 2^63 the connection is open afterwards, except after `Memory` and
     // `Broken`.
-    ensures opens { number < 2 ^ 63 → ServesUnlessFailed S.Store conn.new result }
     // It only reads, and a fault is `Memory`, `Broken` or `NotAProject`.
     // In each represented world with classes it is the class of the workunit of this number, or
     // `None` if there is none.
     // Over a represented world with classes, that class in range, with no limit on steps and a
     // number below 2^63, `NotAProject` is not returned.
-    ensures reads { ReadsClassed S.Store conn.old conn.new result
+    ensures reads { ReadsClassedIf S.Store conn.old conn.new result (number < 2 ^ 63)
         (FindsAt (class_numbered number)) (LoadsClass number) }
 {
     let key = key_of(number)?;
@@ -145,7 +143,6 @@ pub fn class_of_workunit<S: Alter>(
 /// Returns the class of the host of this name: 0 if no file named it. Returns `NotAProject` if its row is invalid.
 pub fn class_of<S: Alter>(conn: &mut Connection<S>, host: &Name) -> Result<u32, Fault>
     // The connection is open afterwards, except after `Memory` and `Broken`.
-    ensures opens { ServesUnlessFailed S.Store conn.new result }
     // It only reads, and a fault is `Memory`, `Broken` or `NotAProject`.
     // It is the class that the host has in each represented world with classes, 0 if no file named
     // it.

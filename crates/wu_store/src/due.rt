@@ -5,9 +5,9 @@ ghost use Rattle.wu_core.specs.declared.fault.Fault.TheVariants.{Memory};
 ghost use Rattle.wu_core.specs.declared.marks.Marks.{Marks};
 ghost use Rattle.wu_rules.specs.Marks.{marks, selects};
 ghost use Rattle.wu_store.specs.Due.{AreEarly, LoadsDue, numbers_left, FindsDue, FindsDueNumbers, FindsFirst, FindsNumbers, AreRowsOfStorable, FindsAllPresent, FindsMarks, FindsPresent, IsRowOfStorable};
-ghost use Rattle.wu_store.specs.Queues.{AnswersQueue, first_marked, is_marked, NotRefusedQueue};
-ghost use Rattle.wu_store.specs.Reads.{ReadsQueued, ReadsWorld};
-ghost use Rattle.wu_store.specs.Loading.{Asks, FindsAbove, IsStoreFault, LoadsAbove, ServesUnlessFailed};
+ghost use Rattle.wu_store.specs.Queues.{first_marked, is_marked, AnswersQueueIf};
+ghost use Rattle.wu_store.specs.Reads.{ReadsWorld, ReadsWorldIf, ReadsQueuedIf};
+ghost use Rattle.wu_store.specs.Loading.{FindsAbove, LoadsAbove};
 ghost use Rattle.wu_schema.specs.Reading.{IsReadFault};
 ghost use Rattle.wu_core.specs.Formed.{IsWorkunit};
 
@@ -26,7 +26,6 @@ pub(crate) fn first<S: Alter>(
     alloc: Global,
 ) -> Result<Option<Workunit>, Fault>
     // The connection is open afterwards, except after `Memory` and `Broken`.
-    ensures opens { ServesUnlessFailed S.Store conn.new result }
     // It only reads, and a fault is `Memory`, `Broken` or `NotAProject`.
     // In each represented world without classes it is the workunit of the least number, or `None`
     // if there is none.
@@ -52,13 +51,15 @@ pub(crate) fn next_after<S: Alter>(
     // There are fewer 64-bit numbers from that of the answer on than from this one on, so a loop
     // over answers ends.
     ensures shrinks { IfOk result (λ next. numbers_left next < 2 ^ 64 - number) }
+    // For a number below 2^63 the connection is open afterwards, except after `Memory` and
+    // `Broken`.
     // It only reads, and a fault is `Memory`, `Broken` or `NotAProject`.
     // In each represented world without classes it is the first workunit above this number, or
     // `None` if there is none.
     // Over a represented world without classes, that workunit readable, with no limit on steps and
     // a number below 2^63, `NotAProject` is not returned.
-    ensures reads { ReadsWorld S.Store conn.old conn.new result (FindsAbove number)
-        (LoadsAbove number) }
+    ensures reads { ReadsWorldIf S.Store conn.old conn.new result (number < 2 ^ 63)
+        (FindsAbove number) (LoadsAbove number) }
 {
     let Some(next) = load_above(conn, alloc, number)? else {
         return Ok(None);
@@ -87,7 +88,6 @@ pub fn load_marks<S: Alter>(
     alloc: Global,
 ) -> Result<Vec<(u64, Marks)>, Fault>
     // The connection is open afterwards, except after `Memory` and `Broken`.
-    ensures opens { ServesUnlessFailed S.Store conn.new result }
     // It only reads, and a fault is `Memory`, `Broken` or `NotAProject`.
     // In each represented world without classes these are the numbers of all workunits with their
     // marks, in order of number.
@@ -138,14 +138,10 @@ fn due_rows<S: Alter>(
     min_age: u64,
     limit: u64,
 ) -> Result<Vec<Row>, Fault>
-    ensures asks { Asks S.Store conn.old conn.new result }
-    ensures opens { limit < 2 ^ 63 → ServesUnlessFailed S.Store conn.new result }
     // These are the numbers of the queue's first workunits whose marks the pass selects, in order,
     // up to the limit.
-    ensures answers { AnswersQueue S.Store conn.old conn.new result
+    ensures { AnswersQueueIf S.Store conn.old conn.new result (limit < 2 ^ 63)
         (first_marked limit (selects pass now min_age)) }
-    ensures fault { IfErr result IsStoreFault }
-    ensures unrefused { limit < 2 ^ 63 → NotRefusedQueue S.Store conn.old conn.new result }
 {
     match moment_due(pass, now, min_age) {
         Some(by) => marked_rows(conn, pass, by, limit),
@@ -161,7 +157,7 @@ fn present<S: Alter>(conn: &mut Connection<S>, alloc: Global, row: &Row) -> Resu
     // workunit.
     // Over such a world with that workunit readable, and with no limit on steps, `NotAProject` is
     // not returned.
-    ensures reads { ReadsWorld S.Store conn.old conn.new result (FindsPresent row.now)
+    ensures reads { ReadsWorldIf S.Store conn.old conn.new result ⊥ (FindsPresent row.now)
         (IsRowOfStorable row.now) }
 {
     let number = number_at(row, 0)?;
@@ -179,13 +175,9 @@ fn first_due_rows<S: Alter>(
     min_age: u64,
     limit: u64,
 ) -> Result<Vec<Row>, Fault>
-    ensures asks { Asks S.Store conn.old conn.new result }
-    ensures opens { limit < 2 ^ 63 → ServesUnlessFailed S.Store conn.new result }
-    ensures answers { AnswersQueue S.Store conn.old conn.new result
+    ensures reads { AnswersQueueIf S.Store conn.old conn.new result (limit < 2 ^ 63)
         (first_marked limit (selects pass now min_age)) }
     ensures few { IfOk result (λ rows. length rows.items ≤ limit) }
-    ensures fault { IfErr result IsStoreFault }
-    ensures unrefused { limit < 2 ^ 63 → NotRefusedQueue S.Store conn.old conn.new result }
 {
     let rows = due_rows(conn, pass, now, min_age, limit)?;
     if rows.len() as u64 > limit {
@@ -221,7 +213,7 @@ fn load_all<S: Alter>(
     // are those workunits.
     // Over such a world with those workunits readable, and with no limit on steps, `NotAProject` is
     // not returned.
-    ensures reads { ReadsWorld S.Store conn.old conn.new result (FindsAllPresent rows.now)
+    ensures reads { ReadsWorldIf S.Store conn.old conn.new result ⊥ (FindsAllPresent rows.now)
         (AreRowsOfStorable rows.now) }
     ensures long { IfOk result (λ found. length found.items ≡ length rows.now) }
 {
@@ -246,14 +238,13 @@ pub fn load_due<S: Alter>(
     limit: u64,
 ) -> Result<Vec<Workunit>, Fault>
     // For a limit below 2^63 the connection is open afterwards, except after `Memory` and `Broken`.
-    ensures opens { limit < 2 ^ 63 → ServesUnlessFailed S.Store conn.new result }
     // It only reads, and a fault is `Memory`, `Broken` or `NotAProject`.
     // In each represented world with classes and its queue these are the first workunits that the
     // pass changes, up to the limit.
     // Over a represented world with classes, its queue and readable workunits, with no limit on
     // steps and a limit below 2^63, `NotAProject` is not returned.
-    ensures reads { ReadsQueued S.Store conn.old conn.new result (FindsDue pass now min_age limit)
-        (LoadsDue limit) }
+    ensures reads { ReadsQueuedIf S.Store conn.old conn.new result (limit < 2 ^ 63)
+        (FindsDue pass now min_age limit) (LoadsDue limit) }
     // Each of the workunits is well formed, whatever the tables hold.
     ensures formed { IfOk result (λ due. All IsWorkunit due.items) }
     // There are at most as many as the limit.
@@ -275,13 +266,12 @@ pub fn due_numbers<S: Alter>(
     limit: u64,
 ) -> Result<Vec<u64>, Fault>
     // For a limit below 2^63 the connection is open afterwards, except after `Memory` and `Broken`.
-    ensures opens { limit < 2 ^ 63 → ServesUnlessFailed S.Store conn.new result }
     // It only reads, and a fault is `Memory`, `Broken` or `NotAProject`.
     // In each represented world with classes and its queue these are the numbers of the first
     // workunits that the pass changes, up to the limit.
     // Over a represented world with classes and its queue, with no limit on steps and a limit below
     // 2^63, `NotAProject` is not returned.
-    ensures reads { ReadsQueued S.Store conn.old conn.new result
+    ensures reads { ReadsQueuedIf S.Store conn.old conn.new result (limit < 2 ^ 63)
         (FindsDueNumbers pass now min_age limit) (λ _. limit < 2 ^ 63) }
     // There are at most as many as the limit.
     ensures few { IfOk result (λ due. length due.items ≤ limit) }

@@ -2,8 +2,8 @@
 //! and the next places.
 
 ghost use Rattle.std.specs.Prelude.{◌<◌, ◌≤◌, ◌^◌, ⊤, map, IfOk};
-ghost use Rattle.wu_store.specs.Reads.{FindsAt, ReadsWorld};
-ghost use Rattle.wu_store.specs.Loading.{FindsAbove, FindsClassless, FindsEarlier, FindsEarly, FindsIfThere, FindsInstances, FindsNamed, FindsNumbered, LoadsInstances, LoadsImport, IsLoadableIfThere, IsPlaceToGive, IsWholeIfThere, KnowsArchivedPlace, KnowsGrantPlace, KnowsNext, LoadsAbove, LoadsEarly, LoadsFormed, LoadsNamed, LoadsNumbered, ServesUnlessFailed};
+ghost use Rattle.wu_store.specs.Reads.{FindsAt, ReadsWorld, ReadsWorldIf};
+ghost use Rattle.wu_store.specs.Loading.{FindsAbove, FindsClassless, FindsEarlier, FindsEarly, FindsIfThere, FindsInstances, FindsNamed, FindsNumbered, LoadsInstances, LoadsImport, IsLoadableIfThere, IsPlaceToGive, IsWholeIfThere, KnowsArchivedPlace, KnowsGrantPlace, KnowsNext, LoadsAbove, LoadsEarly, LoadsFormed, LoadsNamed, LoadsNumbered};
 ghost use Rattle.wu_schema.specs.Restoring.{Restores};
 ghost use Rattle.wu_schema.specs.Stored.{instance_row};
 ghost use Rattle.wu_store.specs.Answers.{row_before, row_numbered};
@@ -45,12 +45,14 @@ fn instances_of<S: Alter>(
     workunit: u64,
 ) -> Result<Instances, Fault>
     ensures stored { IfOk result AreStoredInstances }
+    // For a number below 2^63 the connection is open afterwards, except after `Memory` and
+    // `Broken`.
     // In each represented world these are the instances of the workunit of this number, or none if
     // it is not there.
     // Over a represented world, those instances readable, with no limit on steps and a number below
     // 2^63, `NotAProject` is not returned.
-    ensures reads { ReadsWorld S.Store conn.old conn.new result (FindsInstances workunit)
-        (LoadsInstances workunit) }
+    ensures reads { ReadsWorldIf S.Store conn.old conn.new result (workunit < 2 ^ 63)
+        (FindsInstances workunit) (LoadsInstances workunit) }
 {
     let key = key_of(workunit)?;
     let rows = query(conn, SELECT_INSTANCES, params![key])?;
@@ -67,7 +69,7 @@ fn loaded<S: Alter>(
     ensures formed { LoadsFormed result }
     // In each represented world with the workunit of that row it is this one with its instances and
     // class 0; `None` without a row.
-    ensures reads { ReadsWorld S.Store conn.old conn.new result (FindsClassless row)
+    ensures reads { ReadsWorldIf S.Store conn.old conn.new result ⊥ (FindsClassless row)
         (IsLoadableIfThere row) }
 {
     let Some(row) = row else {
@@ -92,7 +94,7 @@ fn whole<S: Alter>(
     ensures formed { LoadsFormed result }
     // In each represented world with classes and the workunit of that row it is this one; `None`
     // without a row.
-    ensures reads { ReadsWorld S.Store conn.old conn.new result (FindsIfThere row)
+    ensures reads { ReadsWorldIf S.Store conn.old conn.new result ⊥ (FindsIfThere row)
         (IsWholeIfThere row) }
 {
     let Some(mut workunit) = loaded(conn, alloc, row)? else {
@@ -110,11 +112,10 @@ fn whole<S: Alter>(
 /// Returns the row of the workunit of this number, or `None` if there is none. Returns `NotAProject` if the number is
 /// not below 2^63.
 fn numbered_row<S: Alter>(conn: &mut Connection<S>, number: u64) -> Result<Option<Row>, Fault>
-    ensures opens { number < 2 ^ 63 → ServesUnlessFailed S.Store conn.new result }
     // It is the row that the workunit of this number has in each represented world, or `None` if
     // there is none.
-    ensures reads { ReadsWorld S.Store conn.old conn.new result (FindsAt (row_numbered number))
-        (λ _. number < 2 ^ 63) }
+    ensures reads { ReadsWorldIf S.Store conn.old conn.new result (number < 2 ^ 63)
+        (FindsAt (row_numbered number)) (λ _. number < 2 ^ 63) }
 {
     let key = key_of(number)?;
     ask_row(conn, SELECT_NUMBERED, params![key])
@@ -128,18 +129,17 @@ pub fn load<S: Alter>(
     alloc: Global,
     number: u64,
 ) -> Result<Option<Workunit>, Fault>
-    // For a number below 2^63 the connection is open afterwards, except after `Memory` and
-    // `Broken`.
-    ensures opens { number < 2 ^ 63 → ServesUnlessFailed S.Store conn.new result }
     // A workunit that is returned is well formed, whatever the tables hold.
     ensures formed { LoadsFormed result }
+    // For a number below 2^63 the connection is open afterwards, except after `Memory` and
+    // `Broken`.
     // It only reads, and a fault is `Memory`, `Broken` or `NotAProject`.
     // In each represented world with classes it is the workunit of this number with class and
     // instances, or `None` if there is none.
     // Over a represented world with classes, that workunit readable, with no limit on steps and a
     // number below 2^63, `NotAProject` is not returned.
-    ensures reads { ReadsWorld S.Store conn.old conn.new result (FindsNumbered number)
-        (LoadsNumbered number) }
+    ensures reads { ReadsWorldIf S.Store conn.old conn.new result (number < 2 ^ 63)
+        (FindsNumbered number) (LoadsNumbered number) }
 {
     let row = numbered_row(conn, number)?;
     whole(conn, alloc, row)
@@ -153,18 +153,17 @@ pub fn load_early<S: Alter>(
     alloc: Global,
     number: u64,
 ) -> Result<Option<Workunit>, Fault>
-    // For a number below 2^63 the connection is open afterwards, except after `Memory` and
-    // `Broken`.
-    ensures opens { number < 2 ^ 63 → ServesUnlessFailed S.Store conn.new result }
     // A workunit that is returned is well formed, whatever the tables hold.
     ensures formed { LoadsFormed result }
+    // For a number below 2^63 the connection is open afterwards, except after `Memory` and
+    // `Broken`.
     // It only reads, and a fault is `Memory`, `Broken` or `NotAProject`.
     // In each represented world without classes it is the workunit of this number with its
     // instances, or `None` if there is none.
     // Over a represented world without classes, that workunit readable, with no limit on steps and
     // a number below 2^63, `NotAProject` is not returned.
-    ensures reads { ReadsWorld S.Store conn.old conn.new result (FindsEarly number)
-        (LoadsEarly number) }
+    ensures reads { ReadsWorldIf S.Store conn.old conn.new result (number < 2 ^ 63)
+        (FindsEarly number) (LoadsEarly number) }
 {
     let row = numbered_row(conn, number)?;
     loaded(conn, alloc, row)
@@ -179,18 +178,17 @@ pub fn load_above<S: Alter>(
     alloc: Global,
     number: u64,
 ) -> Result<Option<Workunit>, Fault>
-    // For a number below 2^63 the connection is open afterwards, except after `Memory` and
-    // `Broken`.
-    ensures opens { number < 2 ^ 63 → ServesUnlessFailed S.Store conn.new result }
     // A workunit that is returned is well formed, whatever the tables hold.
     ensures formed { LoadsFormed result }
+    // For a number below 2^63 the connection is open afterwards, except after `Memory` and
+    // `Broken`.
     // It only reads, and a fault is `Memory`, `Broken` or `NotAProject`.
     // In each represented world without classes it is the first workunit above this number with its
     // instances, or `None` if there is none.
     // Over a represented world without classes, that workunit readable, with no limit on steps and
     // a number below 2^63, `NotAProject` is not returned.
-    ensures reads { ReadsWorld S.Store conn.old conn.new result (FindsAbove number)
-        (LoadsAbove number) }
+    ensures reads { ReadsWorldIf S.Store conn.old conn.new result (number < 2 ^ 63)
+        (FindsAbove number) (LoadsAbove number) }
 {
     let key = key_of(number)?;
     let row = ask_row(conn, SELECT_ABOVE, params![key])?;
@@ -204,10 +202,9 @@ pub fn load_named<S: Alter>(
     alloc: Global,
     name: &Name,
 ) -> Result<Option<Workunit>, Fault>
-    // The connection is open afterwards, except after `Memory` and `Broken`.
-    ensures opens { ServesUnlessFailed S.Store conn.new result }
     // A workunit that is returned is well formed, whatever the tables hold.
     ensures formed { LoadsFormed result }
+    // The connection is open afterwards, except after `Memory` and `Broken`.
     // It only reads, and a fault is `Memory`, `Broken` or `NotAProject`.
     // In each represented world with classes it is the workunit of this name with class and
     // instances, or `None` if there is none.
@@ -228,7 +225,6 @@ pub fn import_of<S: Alter>(
     name: &Name,
 ) -> Result<Option<StoredImport>, Fault>
     // The connection is open afterwards, except after `Memory` and `Broken`.
-    ensures opens { ServesUnlessFailed S.Store conn.new result }
     // It only reads, and a fault is `Memory`, `Broken` or `NotAProject`.
     // In each represented world it is the stored import of this kind and name: content and first
     // answer; or `None` if there is none.
@@ -250,7 +246,6 @@ pub fn next_number<S: Alter>(conn: &mut Connection<S>) -> Result<u64, Fault>
     // The number is from 1 to one more than there may be workunits ever.
     ensures within { IfOk result IsNextNumber }
     // The connection is open afterwards, except after `Memory` and `Broken`.
-    ensures opens { ServesUnlessFailed S.Store conn.new result }
     // It only reads, and a fault is `Memory`, `Broken` or `NotAProject`.
     // It is the next number of each represented world.
     // Over a represented world with such a next number and no limit on steps, `NotAProject` is not
@@ -290,7 +285,6 @@ pub fn next_grant_place<S: Alter>(conn: &mut Connection<S>) -> Result<u64, Fault
     // The place is from 1 to 2^63.
     ensures within { IfOk result IsPlaceToGive }
     // The connection is open afterwards, except after `Memory` and `Broken`.
-    ensures opens { ServesUnlessFailed S.Store conn.new result }
     // It only reads, and a fault is `Memory`, `Broken` or `NotAProject`.
     // It is the place after all grants of each represented world, counted from 1.
     // Over a represented world, with no limit on steps, `NotAProject` is not returned.
@@ -305,7 +299,6 @@ pub fn next_archived_place<S: Alter>(conn: &mut Connection<S>) -> Result<u64, Fa
     // The place is from 1 to 2^63.
     ensures within { IfOk result IsPlaceToGive }
     // The connection is open afterwards, except after `Memory` and `Broken`.
-    ensures opens { ServesUnlessFailed S.Store conn.new result }
     // It only reads, and a fault is `Memory`, `Broken` or `NotAProject`.
     // It is the place after all archived rows of each represented world, counted from 1.
     // Over a represented world, with no limit on steps, `NotAProject` is not returned.

@@ -14,7 +14,7 @@ ghost use Rattle.wu_schema.specs.Queue.{queue_table};
 ghost use Rattle.wu_schema.specs.Stored.{instance_cells, marks_cells, number, workunit_row};
 ghost use Rattle.wu_store.specs.Reads.{FindsAt, ReadsWorld};
 ghost use Rattle.wu_store.specs.Loading.{IsStoreFault, ServesUnlessFailed};
-ghost use Rattle.wu_store.specs.Queues.{AnswersQueue, ChangesQueue, first_marked, is_marked, KeepsQueue, KeepsWorld, marked_text, NotRefusedQueue, with_marks, without_marks};
+ghost use Rattle.wu_store.specs.Queues.{ChangesQueue, first_marked, is_marked, KeepsQueue, KeepsWorld, marked_text, with_marks, without_marks, AnswersQueueIf};
 ghost use Rattle.wu_store.specs.Answers.{has_name, ShowsLast, was_archived};
 
 use crate::changes::Import;
@@ -132,7 +132,6 @@ pub fn ask_row<S: Alter>(
 /// Returns whether a workunit of this name is present.
 pub fn has_workunit<S: Alter>(conn: &mut Connection<S>, name: &Name) -> Result<bool, Fault>
     // The connection is open afterwards, except after `Memory` and `Broken`.
-    ensures opens { ServesUnlessFailed S.Store conn.new result }
     // It only reads, and a fault is `Memory`, `Broken` or `NotAProject`.
     // `true` means that each represented world has a workunit of this name, and `false` that none
     // has.
@@ -147,7 +146,6 @@ pub fn has_workunit<S: Alter>(conn: &mut Connection<S>, name: &Name) -> Result<b
 /// Returns whether a workunit of this name was archived.
 pub fn has_archived<S: Alter>(conn: &mut Connection<S>, name: &Name) -> Result<bool, Fault>
     // The connection is open afterwards, except after `Memory` and `Broken`.
-    ensures opens { ServesUnlessFailed S.Store conn.new result }
     // It only reads, and a fault is `Memory`, `Broken` or `NotAProject`.
     // `true` means that each represented world has an archived workunit of this name, and `false`
     // that none has.
@@ -181,19 +179,13 @@ pub fn marked_rows<S: Alter>(
     by: Moment,
     limit: u64,
 ) -> Result<Vec<Row>, Fault>
-    // Begins no transaction and commits nothing; except after `Memory` and `Broken` all is as
-    // before; `Broken` means a failed disk or a closed connection.
-    ensures asks { Asks S.Store conn.old conn.new result }
     // For a limit below 2^63 the connection is open afterwards, except after `Memory` and `Broken`.
-    ensures opens { limit < 2 ^ 63 → ServesUnlessFailed S.Store conn.new result }
+    // It only reads, and a fault is `Memory`, `Broken` or `NotAProject`.
     // These are the numbers of the queue's first workunits whose mark is set, or has come by the
     // moment, in order, up to the limit.
-    ensures answers { AnswersQueue S.Store conn.old conn.new result
-        (first_marked limit (is_marked pass by)) }
-    // A fault is `Memory`, `Broken` or `NotAProject`.
-    ensures fault { IfErr result IsStoreFault }
     // Over a queue, with no limit on steps and a limit below 2^63, `NotAProject` is not returned.
-    ensures unrefused { limit < 2 ^ 63 → NotRefusedQueue S.Store conn.old conn.new result }
+    ensures { AnswersQueueIf S.Store conn.old conn.new result (limit < 2 ^ 63)
+        (first_marked limit (is_marked pass by)) }
 {
     let limit = key_of(limit)?;
     let text = marked_text(pass);

@@ -3,7 +3,7 @@ use Rattle.std.proofs.Common.{◌≡◌, ◌+◌, ◌<◌, ◌∙◌, ℕ, zero,
 use Rattle.sqlite.specs.Schema.{Schema}
 use Rattle.wu_schema.specs.ProjectTables.{HasTables, IsTableOf, ProjectTrees, in_order, name_of, rank, table_at}
 use Rattle.wu_schema.proofs.TableOrder.{one_rank, rank_at, rank_low}
-use Rattle.wu_tables.specs.Found.{rank_of, AreThereBefore, HasBytewiseHosts, IsFirstAgainst, IsIn, IsThere, StandsAgainst}
+use Rattle.wu_tables.specs.Found.{rank_of, AreThereBefore, HasBytewiseHosts, IsFirstAgainst, IsTableIn, IsThere, StandsAgainst}
 use Rattle.wu_schema.specs.declared.table.ProjectTable.{ProjectTable}
 use Rattle.wu_schema.specs.declared.table.ProjectTable.TheVariants.{Archived, Grant, Host, HostClass, Import, Project, Result as Results, Workunit, WorkunitClass}
 use Rattle.wu_tables.specs.declared.project.Misfit.{Misfit}
@@ -43,7 +43,7 @@ module _ (version : ℕ) (schema : Schema) where
   trees_from all hosts Host = hosts.0
   trees_from all hosts which = (all which (rank_low which)).0
 
-  each_there : (all : AreThereBefore version schema 9) (hosts : HasBytewiseHosts version schema) (which : ProjectTable) → IsTableOf which version → IsIn schema (name_of which) (table_at which) (trees_from all hosts which)
+  each_there : (all : AreThereBefore version schema 9) (hosts : HasBytewiseHosts version schema) (which : ProjectTable) → IsTableOf which version → IsTableIn schema (name_of which) (table_at which) (trees_from all hosts which)
   each_there all hosts Host is_in = hosts.1 is_in
   each_there all hosts which is_in = (all which (rank_low which)).1 is_in
 

@@ -23,9 +23,9 @@ use Rattle.wu_tables.specs.declared.forms.ReferenceForm.{ReferenceForm}
 use Rattle.wu_tables.specs.declared.forms.TableForm.{TableForm}
 
 -- The column of this form.
-abbrev pub column_of : ColumnForm → Column
-column_of (May name kind) = may name.now kind
-column_of (Needs name kind) = needs name.now kind
+abbrev pub column_of_form : ColumnForm → Column
+column_of_form (May name kind) = may name.now kind
+column_of_form (Needs name kind) = needs name.now kind
 
 -- The reference of this form: a row is deleted with the one that it refers to, and is checked at once.
 abbrev pub reference_of : ReferenceForm → Reference
@@ -62,8 +62,8 @@ abbrev pub no_stamps : Stamps
 no_stamps = record { places = []; terms = []; formats = [] }
 
 -- The table of this form, in this tree.
-abbrev pub table_of : TableForm → ℕ → Table
-table_of form tree = record (blank form.name.now tree (map column_of form.columns.now)) {
+abbrev pub table_of_form : TableForm → ℕ → Table
+table_of_form form tree = record (blank form.name.now tree (map column_of_form form.columns.now)) {
   key = form.key;
   primary = form.primary.now;
   uniques = places_of form.uniques.now;

@@ -11,7 +11,7 @@ use Rattle.sqlite_schema.specs.declared.schema.Index.{Index}
 use Rattle.sqlite_value.specs.Keys.{first_key}
 use Rattle.wu_schema.specs.Indexes.{IsIndexed, queue_indexes}
 use Rattle.wu_schema.specs.Tables.{HasNamed, OwnsTree, host_at, queue_at}
-use Rattle.wu_tables.specs.Forms.{table_of}
+use Rattle.wu_tables.specs.Forms.{table_of_form}
 use Rattle.wu_schema.specs.ProjectTables.{IsTableOf, name_of, rank, table_at}
 use Rattle.wu_schema.specs.declared.table.ProjectTable.{ProjectTable}
 use Rattle.wu_schema.specs.declared.table.ProjectTable.TheVariants.{Host}
@@ -20,19 +20,19 @@ use Rattle.wu_tables.specs.declared.project.Misfit.{Misfit}
 use Rattle.wu_tables.specs.declared.project.Misfit.TheVariants.{Missing, Altered, HostNames}
 
 -- The property holds of the number that is found; if none is found, it holds of no number.
-abbrev pub Finds : (ℕ → Type 0) → Option ℕ → Type 0
-Finds P None = (n : ℕ) → P n → ⊥
-Finds P (Some n) = P n
+abbrev pub FindsPlace : (ℕ → Type 0) → Option ℕ → Type 0
+FindsPlace P None = (n : ℕ) → P n → ⊥
+FindsPlace P (Some n) = P n
 
 -- The name finds this table in its tree.
-abbrev pub IsIn : Schema → List ℕ → (ℕ → Table) → ℕ → Type 0
-IsIn schema name made tree = HasNamed schema name (made tree)
+abbrev pub IsTableIn : Schema → List ℕ → (ℕ → Table) → ℕ → Type 0
+IsTableIn schema name made tree = HasNamed schema name (made tree)
 
 -- The table has this form, in a stored tree that no other table has.
 pub record Stands (schema : Schema) (table : Table) (form : TableForm) : Type 0 where
-  pub like : table ≡ table_of form table.tree
+  pub like : table ≡ table_of_form form table.tree
   pub low : nat_le (2 ^ 31) table.tree ≡ false
-  pub owns : OwnsTree schema (table_of form table.tree)
+  pub owns : OwnsTree schema (table_of_form form table.tree)
 
 -- If the index is a unique one on only the names of the hosts in this tree, it compares their bytes.
 abbrev pub IsByBytes : ℕ → Index → Type 0
@@ -49,14 +49,14 @@ pub record HasQueueIn (schema : Schema) (tree : ℕ) : Type 0 where
 
 -- If the version has this table of a project, its name finds it in this tree.
 abbrev pub IsThere : ℕ → Schema → ProjectTable → ℕ → Type 0
-IsThere version schema which tree = IsTableOf which version → IsIn schema (name_of which) (table_at which) tree
+IsThere version schema which tree = IsTableOf which version → IsTableIn schema (name_of which) (table_at which) tree
 
 -- This is wrong with the schema: a table of the version is missing; or its name is there, but nowhere as the program
 -- makes it; or an index does not compare the bytes of the names of hosts.
 abbrev pub StandsAgainst : ℕ → Schema → Misfit → Type 0
 StandsAgainst version schema (Missing which) = IsTableOf which version × (table_named schema (name_of which) ≡ None)
 StandsAgainst version schema (Altered which) =
-    IsTableOf which version × IsSome (table_named schema (name_of which)) × ((tree : ℕ) → IsIn schema (name_of which) (table_at which) tree → ⊥)
+    IsTableOf which version × IsSome (table_named schema (name_of which)) × ((tree : ℕ) → IsTableIn schema (name_of which) (table_at which) tree → ⊥)
 StandsAgainst version schema HostNames = (tree : ℕ) × HasNamed schema (codes "host") (host_at tree) × (AreByBytes schema tree → ⊥)
 
 -- The place of what is wrong in the written order: that of its table, and for the names of hosts a place behind all

@@ -2,7 +2,7 @@
 
 ghost use Rattle.std.specs.Prelude.{◌≡◌, ◌↔◌, IsTrue, map, pos};
 ghost use Rattle.sqlite_schema.specs.Code.{term_in};
-ghost use Rattle.wu_tables.specs.Forms.{checks_of, column_of, is_one, no_stamps, op_at, orders_of, places_of, reference_of, table_of, HasKeys, HasRules, SaysOne};
+ghost use Rattle.wu_tables.specs.Forms.{checks_of, column_of_form, is_one, no_stamps, op_at, orders_of, places_of, reference_of, table_of_form, HasKeys, HasRules, SaysOne};
 
 use crate::forms::{ColumnForm, ReferenceForm, TableForm};
 use sqlite_items::Items;
@@ -14,7 +14,7 @@ use sqlite_value::value::{Bytes, Value};
 
 /// Returns whether the column has the form.
 fn is_column(column: &Column, form: &ColumnForm) -> bool
-    ensures { IsTrue result ↔ (column.now ≡ column_of form.now) }
+    ensures { IsTrue result ↔ (column.now ≡ column_of_form form.now) }
 {
     let (name, kind, not_null) = match form {
         ColumnForm::May(name, kind) => (*name, *kind, false),
@@ -30,7 +30,7 @@ fn is_column(column: &Column, form: &ColumnForm) -> bool
 
 /// Returns whether the columns have the forms.
 fn are_columns(columns: &[Column], forms: &[ColumnForm]) -> bool
-    ensures { IsTrue result ↔ (columns.now ≡ map column_of forms.now) }
+    ensures { IsTrue result ↔ (columns.now ≡ map column_of_form forms.now) }
 {
     columns.len() == forms.len()
         && columns
@@ -175,7 +175,7 @@ fn has_rules(table: &Table, form: &TableForm) -> bool
 pub fn is_like(table: &Table, form: &TableForm) -> bool
     // It is true exactly where the table is the one that the form describes, in the table's own
     // tree.
-    ensures { IsTrue result ↔ (table.now ≡ table_of form.now table.now.tree) }
+    ensures { IsTrue result ↔ (table.now ≡ table_of_form form.now table.now.tree) }
 {
     table.name.as_slice() == form.name.as_bytes()
         && are_columns(table.columns.as_slice(), form.columns)

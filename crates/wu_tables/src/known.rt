@@ -2,7 +2,7 @@
 
 ghost use Rattle.std.specs.Prelude.{◌≡◌, ℕ, codes};
 ghost use Rattle.wu_schema.specs.Tables.{queue_at};
-ghost use Rattle.wu_tables.specs.Forms.{table_of};
+ghost use Rattle.wu_tables.specs.Forms.{table_of_form};
 ghost use Rattle.wu_schema.specs.ProjectTables.{name_of, table_at};
 
 use crate::forms::ColumnForm::{May, Needs};
@@ -191,7 +191,7 @@ pub fn form_of(table: ProjectTable) -> TableForm
     // The form has the name of the table.
     ensures name { result.name.now ≡ name_of table }
     // In any tree the form describes the table as the program makes it.
-    ensures table { (tree : ℕ) → table_of result tree ≡ table_at table tree }
+    ensures table { (tree : ℕ) → table_of_form result tree ≡ table_at table tree }
 {
     match table {
         ProjectTable::Project => PROJECT,
@@ -211,7 +211,7 @@ pub fn queue_form() -> TableForm
     // The form has the name `queue`.
     ensures name { result.name.now ≡ codes "queue" }
     // In any tree the form describes the queue as the program makes it.
-    ensures table { (tree : ℕ) → table_of result tree ≡ queue_at tree }
+    ensures table { (tree : ℕ) → table_of_form result tree ≡ queue_at tree }
 {
     QUEUE
 }

@@ -3,8 +3,8 @@
 ghost use Rattle.std.specs.Prelude.{◌≡◌, ◌↔◌, IsTrue};
 ghost use Rattle.wu_schema.specs.Indexes.{IsIndexed, index_at};
 ghost use Rattle.wu_schema.specs.Tables.{OwnsTree};
-ghost use Rattle.wu_tables.specs.Forms.{table_of};
-ghost use Rattle.wu_tables.specs.Found.{AreByBytes, Finds, IsByBytes, IsIn, Stands};
+ghost use Rattle.wu_tables.specs.Forms.{table_of_form};
+ghost use Rattle.wu_tables.specs.Found.{AreByBytes, FindsPlace, IsByBytes, IsTableIn, Stands};
 
 use crate::compare::is_like;
 use crate::forms::TableForm;
@@ -16,7 +16,7 @@ const TREES: u32 = 2_147_483_648;
 
 /// Returns whether no table except one of this form has the tree.
 fn owns_tree(schema: &Schema, tree: u32, form: &TableForm) -> bool
-    ensures { IsTrue result ↔ OwnsTree schema.now (table_of form.now tree) }
+    ensures { IsTrue result ↔ OwnsTree schema.now (table_of_form form.now tree) }
 {
     schema
         .tables
@@ -37,7 +37,7 @@ fn stands(schema: &Schema, table: &Table, form: &TableForm) -> bool
 pub fn tree_of(schema: &Schema, form: &TableForm) -> Option<u32>
     // A tree is returned exactly where the name finds a table of this form, in a stored tree that
     // no other table has.
-    ensures { Finds (IsIn schema.now form.now.name.now (table_of form.now)) result }
+    ensures { FindsPlace (IsTableIn schema.now form.now.name.now (table_of_form form.now)) result }
 {
     let at = schema.table_named(form.name.as_bytes())?;
     let table = schema.tables.get(at)?;

@@ -67,8 +67,8 @@ fn are_no_views(views: &[View]) -> bool
 
 /// Returns whether all that is in the schema is a project's, by its name.
 pub fn has_only_a_project(schema: &Schema) -> bool
-    // It is true exactly where each table has a name that a new project gives, each index has such
-    // a name or one that SQLite keeps for itself, and there is no view.
+    // It is true exactly where each table has a name that a new project gives, and there is no view.
+    // Each index has such a name then, or one that SQLite keeps for itself.
     ensures { IsTrue result ↔ HasOnlyAProject schema.now }
 {
     has_project_names(schema) && are_no_views(schema.views.as_slice())

@@ -3,7 +3,7 @@
 ghost use Rattle.std.specs.Prelude.{◌↔◌, IsTrue};
 ghost use Rattle.std.specs.List.{AllByRecursion};
 ghost use Rattle.wu_schema.specs.Indexes.{IsIndexed, queue_indexes};
-ghost use Rattle.wu_tables.specs.Found.{Finds, HasQueueIn};
+ghost use Rattle.wu_tables.specs.Found.{FindsPlace, HasQueueIn};
 
 use crate::known::queue_form;
 use crate::lookup::{is_indexed, tree_of};
@@ -24,7 +24,7 @@ fn has_indexes(schema: &Schema, tree: u32) -> bool
 pub fn queue_tree(schema: &Schema) -> Option<u32>
     // A tree is returned exactly where the queue is there in its form, in a tree of its own, with
     // its five indexes.
-    ensures { Finds (HasQueueIn schema.now) result }
+    ensures { FindsPlace (HasQueueIn schema.now) result }
 {
     let tree = tree_of(schema, &queue_form())?;
     if has_indexes(schema, tree) {

@@ -76,11 +76,9 @@ module _ {S : Type 0} {text : List ℕ} {params : Row} {Over : Database → Worl
 
   pub asked_count : (r : Result ℕ Fault) → (IsSelect text → Asks g old new r) → (IsSelect text → ServesUnlessFailed g new r) → ShowsCount g old new r text given → FailsCount g old new r text given → IfErr r IsStoreFault → HasAsked g old new r Over (λ found world. found ≡ of world)
   asked_count r asks opens shows fails told = record {
-    opens = opens it.select;
-    reads = record {
-      asks = asks it.select;
-      fault = told;
-      found = λ clean world s. if_ok r _ _ (λ found h. h.2 (of world) (counts h.0 (shown_as h.0 h.1) world s)) (shows clean);
-      unrefused = λ clean world s any limit. if_err r _ _ (λ fault h. never_failed fault world s limit h) (fails clean);
-    };
+    asks = asks it.select;
+    opens = λ asked. opens it.select;
+    fault = told;
+    found = λ clean world s. if_ok r _ _ (λ found h. h.2 (of world) (counts h.0 (shown_as h.0 h.1) world s)) (shows clean);
+    unrefused = λ clean world s any limit. if_err r _ _ (λ fault h. never_failed fault world s limit h) (fails clean);
   }

@@ -8,7 +8,7 @@ use Rattle.wu_core.specs.declared.states.ServerState.{ServerState}
 use Rattle.wu_schema.specs.Restoring.{Restores}
 use Rattle.wu_schema.proofs.AskingLemmas.{fault_told}
 use Rattle.wu_schema.specs.declared.table.ProjectTable.TheVariants as the_table
-use Rattle.wu_store.specs.Loading.{IsStoreFault, ServesUnlessFailed}
+use Rattle.wu_store.specs.Loading.{IsStoreFault}
 use Rattle.wu_store.specs.Reads.{FindsAt, ReadsWorld}
 use Rattle.wu_schema.specs.Reading.{IsReadFault, server_state_cell}
 use Rattle.wu_store.proofs.AskLemmas.{IsQuestion, never_broken, read_told}
@@ -23,7 +23,6 @@ use Rattle.wu_views.proofs.GivenLemmas.{IsWalked, end_asks, end_opens, failed_as
 
 -- what a walk does and finds, and that it is not refused
 pub record HasWalked {S T : Type 0} (g : Ghosts S) (of : World → T) (Can : World → Type 0) (Counts : State → State → T → Type 0) (old new : Held S) (result : Result T Fault) : Type 0 where
-  pub opens : ServesUnlessFailed g new result
   pub counted : HasCleanDisk (state g new) → IfOk result (Counts (state g old) (state g new))
   pub reads : ReadsWorld g old new result (FindsAt of) Can
 
@@ -40,10 +39,10 @@ module _ {S T : Type 0} (g : Ghosts S) (of : World → T) (Can : World → Type 
     -- where the question is refused
     pub walked_refused : (old new : Held S) {X : Type 0} (e : Error) (fault : Fault) → fault ≡ fault_of e → IsRefused g {X = X} text [] old (Err e) new → Walks old new (Err fault)
     walked_refused old new {X} e fault is none = record {
-      opens = refused_opens g text it.select [] old new {X = X} e fault is none;
       counted = λ clean. tt;
       reads = record {
         asks = refused_asks g text it.select [] old new {X = X} e fault is none;
+        opens = λ asked. refused_opens g text it.select [] old new {X = X} e fault is none;
         fault = subst IsStoreFault (sym is) (fault_told e);
         found = λ clean world stands. tt;
         unrefused = λ clean world stands can unlimited. refused_told g old world stands unlimited e fault is new {X = X} none clean it;
@@ -54,10 +53,10 @@ module _ {S T : Type 0} (g : Ghosts S) (of : World → T) (Can : World → Type 
       -- where it is left with a fault
       pub walked_left : (fault : Fault) → IsReadFault fault → (HasCleanDisk (state g now) → (world : World) → Refines (state g old).now world → Can world → fault ≢ NotAProject) → Walks old now (Err fault)
       walked_left fault told unread = record {
-        opens = walk_opens g text it.select [] old now given walk {T = T} (Err fault);
         counted = λ clean. tt;
         reads = record {
           asks = walk_asks g text it.select [] old now given walk (Err fault) (never_broken {U = T} (Err fault) told);
+          opens = λ asked. walk_opens g text it.select [] old now given walk {T = T} (Err fault);
           fault = read_told fault told;
           found = λ clean world stands. tt;
           unrefused = λ clean world stands can unlimited. unread clean world stands can;
@@ -68,10 +67,10 @@ module _ {S T : Type 0} (g : Ghosts S) (of : World → T) (Can : World → Type 
         -- where a row is not read
         pub walked_failed : (e : Error) (fault : Fault) → fault ≡ fault_of e → (HasCleanDisk (state g new) → FailsToAdvance g now new e) → Walks old new (Err fault)
         walked_failed e fault is fails = record {
-          opens = failed_opens g text it.select [] old now given walk new mode survives e fault is fails;
           counted = λ clean. tt;
           reads = record {
             asks = failed_asks g text it.select [] old now given walk new mode survives e fault is fails;
+            opens = λ asked. failed_opens g text it.select [] old now given walk new mode survives e fault is fails;
             fault = subst IsStoreFault (sym is) (fault_told e);
             found = λ clean world stands. tt;
             unrefused = λ clean world stands can unlimited. failed_told g old world stands unlimited e fault is now given walk new survives fails clean it;
@@ -82,10 +81,10 @@ module _ {S T : Type 0} (g : Ghosts S) (of : World → T) (Can : World → Type 
         pub walked_whole : (next : Option Row) (gives : HasCleanDisk (state g new) → Advances g now new next) (same : HasCleanDisk (state g new) → IsUnchanged (state g now) (state g new)) → (x : T) → (HasCleanDisk (state g new) → Counts (state g old) (state g new) x)
             → (HasCleanDisk (state g new) → (world : World) → Refines (state g old).now world → FindsAt of (Ok x) world) → Walks old new (Ok x)
         walked_whole next gives same x counted found = record {
-          opens = end_opens g text it.select [] old now given walk new mode survives next gives same {T = T} (Ok x);
           counted = counted;
           reads = record {
             asks = end_asks g text it.select [] old now given walk new mode survives next gives same (Ok x) (λ is. absurd cc);
+            opens = λ asked. end_opens g text it.select [] old now given walk new mode survives next gives same {T = T} (Ok x);
             fault = tt;
             found = found;
             unrefused = λ clean world stands can unlimited. tt;
@@ -108,11 +107,10 @@ WalksStates g = HasWalked g results_of (λ _. ⊤) CountsStates
 
 -- what is answered, once the rows are let go
 pub states_at : {S : Type 0} (g : Ghosts S) (old now new : Held S) (r : Result Results Fault) → now ≡ new → WalksStates g old now r → record {
-  opens : ServesUnlessFailed g new r;
   counted : CountsResults g old new r;
   reads : ReadsWorld g old new r (FindsAt results_of) (λ _. ⊤);
 }
-states_at g old now new r same it = let at = subst (λ h. WalksStates g old h r) same it in record { opens = at.opens; counted = at.counted; reads = at.reads }
+states_at g old now new r same it = let at = subst (λ h. WalksStates g old h r) same it in record { counted = at.counted; reads = at.reads }
 
 module _ {S : Type 0} (g : Ghosts S) (old : Held S) where
   pub none_counted : (new : Held S) → (old.in_transaction ≡ false → new.in_transaction ≡ false) → Survives (state g old) (state g new) (CommitsShowing states_asked.text [] (state g old)) → (HasCleanDisk (state g new) → HasBegun g states_asked.text [] old new)
@@ -179,11 +177,10 @@ abbrev pub WalksGrants : {S : Type 0} → Ghosts S → Held S → Held S → Res
 WalksGrants g = HasWalked g granted_of IsCreditCountable CountsCredit
 
 pub grants_at : {S : Type 0} (g : Ghosts S) (old now new : Held S) (r : Result Granted Fault) → now ≡ new → WalksGrants g old now r → record {
-  opens : ServesUnlessFailed g new r;
   counted : CountsGrants g old new r;
   reads : ReadsWorld g old new r (FindsAt granted_of) IsCreditCountable;
 }
-grants_at g old now new r same it = let at = subst (λ h. WalksGrants g old h r) same it in record { opens = at.opens; counted = at.counted; reads = at.reads }
+grants_at g old now new r same it = let at = subst (λ h. WalksGrants g old h r) same it in record { counted = at.counted; reads = at.reads }
 
 -- they are summed over what was there before, unchanged
 pub summed_since : (first old new : State) (granted : Granted) → IsUnchanged first old → CountsCredit old new granted → CountsCredit first new granted

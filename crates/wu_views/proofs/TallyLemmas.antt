@@ -1,5 +1,5 @@
 -- What walks that count make of the lines of a world.
-use Rattle.std.proofs.Common.{◌≡◌, ◌≢◌, ◌∙◌, ℕ, ◌+◌, Bool, true, false, not, ◌&&◌, if◌then◌else◌, cond, fold, List, [], ◌∷◌, ◌++◌, map, flat_map, filter_map, min, Option, Some, None, Result, Ok, Err, inl, inr, refl, sym, ap, arith}
+use Rattle.std.proofs.Common.{◌≡◌, ◌≢◌, ◌⊎◌, ◌∙◌, ℕ, ◌+◌, Bool, true, false, not, ◌&&◌, if◌then◌else◌, cond, fold, List, [], ◌∷◌, ◌++◌, map, flat_map, filter_map, min, Option, Some, None, Result, Ok, Err, inl, inr, refl, sym, ap, arith}
 use Rattle.std.specs.Prelude.{nat_lt}
 use Rattle.std.specs.Option.{option_map_or}
 use Rattle.std.specs.List.{cons_option, enumerate_from, reduce}
@@ -12,6 +12,7 @@ use Rattle.wu_core.specs.declared.workunit.Workunit.{Workunit}
 use Rattle.wu_core.specs.World.{World}
 use Rattle.wu_rules.specs.Counts.{is_undecided}
 use Rattle.wu_rules.specs.Instances.{is_in_progress_state, is_overdue}
+use Rattle.wu_schema.specs.Faults.{IsFailure}
 use Rattle.wu_store.specs.Loading.{Asks, IsStoreFault}
 use Rattle.wu_store.specs.Reads.{ReadsClassed}
 use Rattle.wu_store.proofs.AskLemmas.{asks_made, never_err}
@@ -153,6 +154,10 @@ counted_refused : (fault : Fault) → fault ≢ NotAProject → fault_of_count f
 counted_refused Output other is = absurd cc
 counted_refused fault other is = other is
 
+counted_failed : {Q : Type 0} (fault : Fault) → IsFailure fault ⊎ Q → IsFailure (fault_of_count fault) ⊎ Q
+counted_failed Output failed = inl (inl refl)
+counted_failed fault failed = failed
+
 module _ {S R U : Type 0} (g : Ghosts S) (old new : Held S) where
   -- what is told of questions that failed
   counted_asks : (fault : Fault) → Asks {T = R} g old new (Err fault) → Asks {T = U} g old new (Err (fault_of_count fault))
@@ -167,6 +172,7 @@ module _ {S T K R U : Type 0} (g : Ghosts S) {lines_of : World → List T} {IsRe
       → ReadsClassed g old new (Ok y) Finds IsReadable
   walk_made x y Finds it made = record {
     asks = asks_made g old new x (Ok y) (never_err y) it.asks;
+    opens = λ asked. it.opens;
     fault = tt;
     found = λ clean world stood. made world (it.lines clean world stood.0 stood.1);
     unrefused = λ clean world stood can limit. tt;
@@ -176,6 +182,7 @@ module _ {S T K R U : Type 0} (g : Ghosts S) {lines_of : World → List T} {IsRe
       → ReadsClassed g old new (Err (fault_of_count fault)) Finds IsReadable
   walk_failed fault Finds it none = record {
     asks = counted_asks {R = R} g old new fault it.asks;
+    opens = λ asked clean. counted_failed fault (it.opens clean);
     fault = counted_fault fault it.fault;
     found = λ clean world stood. none world;
     unrefused = λ clean world stood can limit. counted_refused fault (it.unrefused clean world stood.0 stood.1 can limit);

@@ -4,7 +4,6 @@ ghost use Rattle.std.specs.Prelude.{◌≤◌, ⊤};
 ghost use Rattle.wu_views.specs.Counting.{class_count, import_count, workunit_count};
 ghost use Rattle.wu_views.specs.Lines.{summary_of};
 ghost use Rattle.wu_views.specs.Summaries.{AddsState, CountsGrants, CountsResults, CountsSummary, granted_of, HasNumbers, HasRoom, IsCountable, IsCreditCountable, others_of, project_numbers, results_of, SumsSummary};
-ghost use Rattle.wu_store.specs.Loading.{ServesUnlessFailed};
 ghost use Rattle.wu_store.specs.Reads.{FindsAt, ReadsClassed, ReadsWorld};
 
 use crate::lines::Summary;
@@ -19,7 +18,6 @@ use wu_store::{next_archived_place, next_number};
 /// Returns how many workunits are present. Each has a row in the table of their classes, which is the one that is read
 /// fastest.
 fn count_workunits<S: Alter>(conn: &mut Connection<S>) -> Result<u64, Fault>
-    ensures opens { ServesUnlessFailed S.Store conn.new result }
     ensures reads { ReadsClassed S.Store conn.old conn.new result (FindsAt workunit_count)
         (λ _. ⊤) }
 {
@@ -28,7 +26,6 @@ fn count_workunits<S: Alter>(conn: &mut Connection<S>) -> Result<u64, Fault>
 
 /// Returns how many files were imported, each once.
 fn count_imports<S: Alter>(conn: &mut Connection<S>) -> Result<u64, Fault>
-    ensures opens { ServesUnlessFailed S.Store conn.new result }
     ensures reads { ReadsWorld S.Store conn.old conn.new result (FindsAt import_count) (λ _. ⊤) }
 {
     ask_count(conn, COUNT_IMPORTS, &[])
@@ -36,7 +33,6 @@ fn count_imports<S: Alter>(conn: &mut Connection<S>) -> Result<u64, Fault>
 
 /// Returns how many hosts have a class.
 fn count_classes<S: Alter>(conn: &mut Connection<S>) -> Result<u64, Fault>
-    ensures opens { ServesUnlessFailed S.Store conn.new result }
     ensures reads { ReadsClassed S.Store conn.old conn.new result (FindsAt class_count) (λ _. ⊤) }
 {
     ask_count(conn, COUNT_CLASSES, &[])
@@ -81,11 +77,10 @@ fn with_state(so_far: Results, state: ServerState) -> Results
 
 /// Counts the instances by state while their rows are read, one at a time. Returns `NotAProject` if a row has no state.
 fn count_results<S: Alter>(conn: &mut Connection<S>) -> Result<Results, Fault>
-    // The connection is open afterwards, except after `Memory` and `Broken`.
-    ensures opens { ServesUnlessFailed S.Store conn.new result }
     // After `Ok` each row of `result`, whatever the tables hold, has a state, and is counted in all
     // and in its state.
     ensures counted { CountsResults S.Store conn.old conn.new result }
+    // The connection is open afterwards, except after `Memory` and `Broken`.
     // In each represented world these are the numbers of all instances, and of those in each state.
     // Over a represented world, with no limit on steps, `NotAProject` is not returned.
     ensures reads { ReadsWorld S.Store conn.old conn.new result (FindsAt results_of) (λ _. ⊤) }
@@ -125,7 +120,6 @@ struct Others {
 /// Returns how many workunits, archived workunits, imports and hosts with a class there are.
 fn count_others<S: Alter>(conn: &mut Connection<S>) -> Result<Others, Fault>
     // The connection is open afterwards, except after `Memory` and `Broken`.
-    ensures opens { ServesUnlessFailed S.Store conn.new result }
     // In each represented world with classes these are the numbers of workunits, archived rows,
     // imports and hosts with a class.
     // Over such a world, with no limit on steps, `NotAProject` is not returned.
@@ -153,11 +147,10 @@ struct Granted {
 /// Counts the grants and adds up their credit while their rows are read, one at a time. Returns `NotAProject` if a row
 /// has no credit, or if the sum is not below 2^64.
 fn count_grants<S: Alter>(conn: &mut Connection<S>) -> Result<Granted, Fault>
-    // The connection is open afterwards, except after `Memory` and `Broken`.
-    ensures opens { ServesUnlessFailed S.Store conn.new result }
     // After `Ok` each row of `credit_grant`, whatever the tables hold, has a number, and is counted
     // and summed.
     ensures counted { CountsGrants S.Store conn.old conn.new result }
+    // The connection is open afterwards, except after `Memory` and `Broken`.
     // In each represented world these are the number of all grants and their credit.
     // Over a represented world with all credit below 2^64, with no limit on steps, `NotAProject` is
     // not returned.
@@ -189,7 +182,6 @@ fn count_grants<S: Alter>(conn: &mut Connection<S>) -> Result<Granted, Fault>
 
 /// Returns the version of the project's schema. Returns `NotAProject` if there is no project.
 fn version<S: Alter>(conn: &mut Connection<S>) -> Result<u64, Fault>
-    ensures opens { ServesUnlessFailed S.Store conn.new result }
     ensures reads { ReadsWorld S.Store conn.old conn.new result (FindsAt (λ world. world.version))
         (λ world. 1 ≤ world.version) }
 {
@@ -209,7 +201,6 @@ struct Numbers {
 /// Returns the numbers of the project's row.
 fn read_numbers<S: Alter>(conn: &mut Connection<S>) -> Result<Numbers, Fault>
     // The connection is open afterwards, except after `Memory` and `Broken`.
-    ensures opens { ServesUnlessFailed S.Store conn.new result }
     // In each represented world these are the version and the next number.
     // Over a represented world with both in range, with no limit on steps, `NotAProject` is not
     // returned.
@@ -228,14 +219,13 @@ fn read_numbers<S: Alter>(conn: &mut Connection<S>) -> Result<Numbers, Fault>
 ///
 /// Returns `NotAProject` if a row is no value, or if the credit of all grants is not below 2^64.
 pub fn summary<S: Alter>(conn: &mut Connection<S>) -> Result<Summary, Fault>
-    // The connection is open afterwards, except after `Memory` and `Broken`.
-    ensures opens { ServesUnlessFailed S.Store conn.new result }
     // After `Ok` each row of `result`, whatever the tables hold, has a state, and is counted in all
     // and in its state.
     ensures counted { CountsSummary S.Store conn.old conn.new result }
     // After `Ok` each row of `credit_grant`, whatever the tables hold, has a number, and is counted
     // and summed.
     ensures summed { SumsSummary S.Store conn.old conn.new result }
+    // The connection is open afterwards, except after `Memory` and `Broken`.
     // It only reads, and a fault is `Memory`, `Broken` or `NotAProject`.
     // In each represented world with classes it is the summary of that world.
     // Over such a world with version, next number and all credit in range, with no limit on steps,

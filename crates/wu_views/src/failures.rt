@@ -7,7 +7,6 @@ ghost use Rattle.std.specs.List.Sorted.{IsBinarySearchResult, IsSearchInRange};
 ghost use Rattle.std.specs.Ordering.{nat_cmp};
 ghost use Rattle.wu_core.specs.declared.fault.Fault.TheVariants.{Output};
 ghost use Rattle.wu_core.specs.Storable.{AreStorable};
-ghost use Rattle.wu_store.specs.Loading.{ServesUnlessFailed};
 ghost use Rattle.wu_store.specs.Reads.{ReadsClassed};
 ghost use Rattle.wu_views.specs.Failures.{by_failures, failed, with_failures, with_host_failures, with_more, worst_first, FindsFailures, FindsWorstHosts, Rise};
 
@@ -169,7 +168,6 @@ fn count_failures<S: Alter>(
     conn: &mut Connection<S>,
     alloc: Global,
 ) -> Result<Vec<HostFailures>, Fault>
-    ensures opens { ServesUnlessFailed S.Store conn.new result }
     ensures reads { ReadsClassed S.Store conn.old conn.new result FindsFailures AreStorable }
 {
     let mut failures = Failures {
@@ -193,7 +191,6 @@ pub fn worst_hosts<S: Alter>(
     alloc: Global,
 ) -> Result<Vec<HostFailures>, Fault>
     // The connection is open afterwards, except after `Memory` and `Broken`.
-    ensures opens { ServesUnlessFailed S.Store conn.new result }
     // In each represented world with classes these are its hosts with most failures, in order. Over
     // such a world with values in range, with no limit on steps, `NotAProject` is not returned.
     ensures reads { ReadsClassed S.Store conn.old conn.new result FindsWorstHosts AreStorable }

@@ -1,7 +1,7 @@
 //! The imports of one name.
 
 ghost use Rattle.std.specs.Prelude.{◌≡◌, IfOk};
-ghost use Rattle.wu_store.specs.Loading.{LoadsImport, ServesUnlessFailed};
+ghost use Rattle.wu_store.specs.Loading.{LoadsImport};
 ghost use Rattle.wu_store.specs.Reads.{FindsAt, ReadsWorld};
 ghost use Rattle.wu_views.specs.Lines.{AreImportsStorable, FindsLinesNamed, import_line_named, stored_line};
 
@@ -50,7 +50,6 @@ fn import_line<S: Alter>(
     kind: ImportKind,
     name: &Name,
 ) -> Result<Option<ImportLine>, Fault>
-    ensures opens { ServesUnlessFailed S.Store conn.new result }
     ensures reads { ReadsWorld S.Store conn.old conn.new result
         (FindsAt (import_line_named kind name.now)) (LoadsImport kind name.now) }
 {
@@ -69,14 +68,13 @@ pub fn import_lines_named<S: Alter>(
     name: &Name,
 ) -> Result<Vec<ImportLine>, Fault>
     // The connection is open afterwards, except after `Memory` and `Broken`.
-    ensures opens { ServesUnlessFailed S.Store conn.new result }
     // It only reads, and a fault is `Memory`, `Broken` or `NotAProject`.
     // In each represented world it finds a line for each kind of which there is an import of this
     // name.
     // Over a represented world whose imports can be read, with no limit on steps, `NotAProject` is
     // not returned.
-    ensures reads { ReadsWorld S.Store conn.old conn.new result
-        (FindsLinesNamed name.now) AreImportsStorable }
+    ensures reads { ReadsWorld S.Store conn.old conn.new result (FindsLinesNamed name.now)
+        AreImportsStorable }
 {
     let mut lines = Vec::new(alloc);
     for kind in KINDS {

@@ -3,7 +3,6 @@
 ghost use Rattle.std.specs.Prelude.{◌≡◌, ◌+◌, IfOk, IsOkUnless};
 ghost use Rattle.wu_core.specs.declared.fault.Fault.TheVariants.{Output};
 ghost use Rattle.wu_core.specs.Storable.{AreStorable};
-ghost use Rattle.wu_store.specs.Loading.{ServesUnlessFailed};
 ghost use Rattle.wu_store.specs.Reads.{FindsAt, ReadsClassed};
 ghost use Rattle.wu_views.specs.Tallies.{deadline_in_progress, deadlines_of, decisions_of, earlier, fault_of_count, is_undecided_line, one_more};
 
@@ -85,7 +84,6 @@ pub fn count_decisions<S: Alter>(
     alloc: Global,
 ) -> Result<Decisions, Fault>
     // The connection is open afterwards, except after `Memory` and `Broken`.
-    ensures opens { ServesUnlessFailed S.Store conn.new result }
     // In each represented world with classes these are the numbers of the workunits that are
     // undecided and of those that have an error. Over such a world with values in range, with no
     // limit on steps, `NotAProject` is not returned.
@@ -161,7 +159,6 @@ pub fn count_deadlines<S: Alter>(
     now: Moment,
 ) -> Result<Deadlines, Fault>
     // The connection is open afterwards, except after `Memory` and `Broken`.
-    ensures opens { ServesUnlessFailed S.Store conn.new result }
     // In each represented world with classes these are the number of its instances that are overdue
     // and the earliest deadline of the others in progress. Over such a world with values in range,
     // with no limit on steps, `NotAProject` is not returned.

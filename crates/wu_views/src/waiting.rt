@@ -5,7 +5,6 @@ ghost use Rattle.wu_core.specs.declared.fault.Fault.TheVariants.{Memory};
 ghost use Rattle.wu_core.specs.Storable.{AreStorable};
 ghost use Rattle.wu_views.specs.Waiting.{count_lines, due_count, FindsDueLines, FindsStatusLines};
 ghost use Rattle.wu_views.specs.declared.waiting.StatusLine.TheVariants.{Host};
-ghost use Rattle.wu_store.specs.Loading.{ServesUnlessFailed};
 ghost use Rattle.wu_store.specs.Reads.{FindsAt, ReadsQueued};
 
 use crate::failures::{HostFailures, worst_hosts};
@@ -62,7 +61,6 @@ fn count_due<S: Alter>(
     pass: Pass,
     now: Moment,
 ) -> Result<u64, Fault>
-    ensures opens { ServesUnlessFailed S.Store conn.new result }
     ensures reads { ReadsQueued S.Store conn.old conn.new result
         (FindsAt (λ world. due_count now world pass)) (λ _. ⊤) }
 {
@@ -84,7 +82,6 @@ fn due_lines<S: Alter>(
     alloc: Global,
     now: Moment,
 ) -> Result<Vec<StatusLine>, Fault>
-    ensures opens { ServesUnlessFailed S.Store conn.new result }
     ensures reads { ReadsQueued S.Store conn.old conn.new result (FindsDueLines now) (λ _. ⊤) }
 {
     let mut lines = Vec::new(alloc);
@@ -142,7 +139,6 @@ pub fn status_lines<S: Alter>(
     now: Moment,
 ) -> Result<Vec<StatusLine>, Fault>
     // The connection is open afterwards, except after `Memory` and `Broken`.
-    ensures opens { ServesUnlessFailed S.Store conn.new result }
     // It only reads, and a fault is `Memory`, `Broken` or `NotAProject`.
     // In each represented world with classes and its queue these are its lines.
     // Over such a world with values in range, with no limit on steps, `NotAProject` is not returned.

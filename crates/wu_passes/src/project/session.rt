@@ -3,10 +3,9 @@
 ghost use Rattle.std.specs.Prelude.{◌≡◌, true, false, [], Ok, Err, IfErr, IfOk, IsTrue, OnOk};
 ghost use Rattle.sqlite.specs.Held.{state};
 ghost use Rattle.wu_machine.specs.Machine.{has_right_limits, is_upgrade};
-ghost use Rattle.wu_plans.specs.Planning.{IsReadyAt, PlansAt, PlansFor, PlansProject};
+ghost use Rattle.wu_plans.specs.Planning.{IsReadyAt, PlansAt, PlansFor, PlansProject, PlansProjectIf};
 ghost use Rattle.wu_machine.specs.Commands.{request_of};
 ghost use Rattle.wu_machine.specs.Sound.{IsProject};
-ghost use Rattle.wu_store.specs.Loading.{ServesUnlessFailed, StaysUnlessFailed};
 ghost use Rattle.wu_passes.specs.Standing.{IsCutBy};
 ghost use Rattle.wu_passes.specs.Adopting.{Adopts, KnowsVersion, older_than_present, RefusesAdoption, TellsNew};
 ghost use Rattle.wu_passes.specs.Projects.{AnswersEnded, BeginsSession, CarriesOut, CarriesOutFrom, connection_of, FailsAgain, GoesOnAgain, IsSessionOpen, has_ended, is_new, IsSessionEnded, KeepsAsking, KeepsSession, KeepsVersion, LeavesIdle, LeavesUntouched, PlansOn, RefusesEarly, RunsOver, refused_for, ServesOn, ServesRight, older_version, state_of, TellsWhy};
@@ -100,9 +99,9 @@ fn plan_at<'a, S: Alter>(
     command: &'a Command,
 ) -> Result<Plan<'a>, Fault>
     requires { has_right_limits (request_of command.now) ≡ true }
-    ensures opens { StaysUnlessFailed S.Store conn.old conn.new result }
-    ensures reads { PlansProject S.Store conn.old conn.new result
-        (PlansAt version (request_of command.now)) (IsReadyAt version (request_of command.now)) }
+    ensures reads { PlansProjectIf S.Store conn.old conn.new result
+        (IsTrue (state S.Store conn.old).is_open) (PlansAt version (request_of command.now))
+        (IsReadyAt version (request_of command.now)) }
 {
     match command {
         Command::Batch(batch) => plan_batch(conn, alloc, batch),
@@ -139,7 +138,6 @@ fn plan<'a, S: Alter>(
     command: &'a Command,
 ) -> Result<Plan<'a>, Fault>
     requires { has_right_limits (request_of command.now) ≡ true }
-    ensures opens { ServesUnlessFailed S.Store conn.new result }
     ensures reads { PlansProject S.Store conn.old conn.new result
         (PlansFor (request_of command.now)) IsProject }
 {
@@ -338,7 +336,6 @@ impl<S: Alter> Project<S> {
         // Before the transaction only `Broken` ends the session, and it always does; the session
         // stays over its version.
         ensures session { KeepsAsking self.old self.new result }
-        ensures opens { ServesOn self.new result }
         ensures reads { PlansOn self.old self.new command.now result }
     {
         // outside a transaction what is shown is what is committed

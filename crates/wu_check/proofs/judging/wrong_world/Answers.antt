@@ -5,10 +5,10 @@ use Rattle.wu_check.specs.Checking.{IsKnownVersion}
 use Rattle.wu_check.specs.Findings.{HasOtherVersion}
 use Rattle.wu_check.proofs.LaterLemmas.{tells_version}
 use Rattle.std.specs.Prelude.{is_some, IsNone}
-use Rattle.wu_tables.specs.Found.{Finds, HasQueueIn}
+use Rattle.wu_tables.specs.Found.{FindsPlace, HasQueueIn}
 use Rattle.wu_check.proofs.judging.wrong_world.Goals as goal
 
-none_found : (P : ℕ → Type 0) (found : Option ℕ) → is_some found ≡ false → Finds P found → (n : ℕ) → P n → ⊥
+none_found : (P : ℕ → Type 0) (found : Option ℕ) → is_some found ≡ false → FindsPlace P found → (n : ℕ) → P n → ⊥
 none_found P None is none n has = none n has
 none_found P (Some m) is none n has = absurd cc
 

@@ -29,7 +29,7 @@ returns-in-Err-clause-upgrades g c clean world project stands =
     let was = state g.S.Store c.args.conn.now in
     let now = state g.S.Store c.plan_present.new.conn in
     let shows : ShowsWorld was world = shows_settled was world (c.is_autocommit-is_idle.ensures.settled (search rules)) stands in
-    let told = plan_refused was now world AskUpgrade c.in-Err.fault shows (c.plan_present.ensures.reads.asks.back clean) (c.in-Err.ensures.opens clean) (λ still. c.in-Err.ensures.reads.found clean world still project) in
+    let told = plan_refused was now world AskUpgrade c.in-Err.fault shows (c.plan_present.ensures.reads.asks.back clean) (c.in-Err.ensures.reads.opens tt clean) (λ still. c.in-Err.ensures.reads.found clean world still project) in
     from_unplanned was now world AskUpgrade false c.in-Err.fault clean shows (c.plan_present.ensures.reads.asks.back clean) c.plan_present.ensures.reads.asks.crash told
 
 pub returns-in-Ok-clause-present : goal.returns-in-Ok-clause-present

@@ -8,7 +8,7 @@ use Rattle.wu_plans.proofs.AskLemmas.{all_free, among_same, free_more, names_mor
 use Rattle.wu_plans.proofs.batch.check_names.Goals as goal
 
 pub loop-job-init : goal.loop-job-init
-loop-job-init g c = (search rules, rw c.new-earlier.ensures.empty (IsPermutation-refl []), reads_none g.S.Store _ tt (λ world stands. search rules))
+loop-job-init g c = (search rules, rw c.new-earlier.ensures.empty (IsPermutation-refl []), reads_none g.S.Store _ tt (λ never. never) (λ world stands. search rules))
 
 pub returns-then-branch : goal.returns-then-branch
 returns-then-branch g c =

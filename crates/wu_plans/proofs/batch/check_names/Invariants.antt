@@ -12,4 +12,4 @@ abbrev pub invariant-loop-job : goal.invariant-loop-job
 invariant-loop-job g l =
     (l.place ≡ l.job-index)
     × IsPermutation (take l.job-index (job_names l.jobs)) (texts_of l.earlier.keys)
-    × Reads {T = Unit {0}} g.S.Store l.initial.conn l.conn (Ok tt) RefusesName Refines (λ _ world. AreFree world l.jobs l.job-index) (λ _. ⊤)
+    × Reads {T = Unit {0}} g.S.Store l.initial.conn l.conn (Ok tt) ⊥ RefusesName Refines (λ _ world. AreFree world l.jobs l.job-index) (λ _. ⊤)

@@ -12,6 +12,7 @@ use Rattle.wu_store.proofs.AskLemmas.{handed_is}
 pub returns-in_err-check_names : goal.returns-in_err-check_names
 returns-in_err-check_names g c = record {
   asks = asks_handed g.S.Store _ _ c.from_residual.result c.in_err-check_names.field-0.0 c.from_residual.ensures.1 c.in_err-check_names.ensures.asks;
+  opens = λ never. absurd never;
   fault = search rules;
   found = λ clean world stands is project new template_is file_is. rw (handed_is c.from_residual.result c.in_err-check_names.field-0.0 c.from_residual.ensures.1)
       (names_refused world is project c.args.batch.now.name c.args.batch.now.template c.args.batch.now.file c.args.params c.args.jobs c.in_err-check_names.field-0.0 new template_is file_is (rw c.as_slice.ensures at (c.in_err-check_names.ensures.found clean world stands)));
@@ -22,6 +23,7 @@ pub returns : goal.returns
 returns g c = record {
   asks = asks_then g.S.Store c.args.conn.now c.check_names.new.conn c.next_number.new.conn c.in_ok-check_names.field-0 c.in_ok-check_names.ensures.asks c.new_batch.result
       (asks_made g.S.Store _ _ c.in_ok-next.next c.new_batch.result (memory_unbroken c.new_batch.result c.new_batch.ensures.fault) c.in_ok-next.ensures.reads.asks);
+  opens = λ never. absurd never;
   fault = search rules;
   found = λ clean world stands is project new template_is file_is. let before : HasCleanDisk (state g.S.Store c.check_names.new.conn) = omega (arith, c.next_number.ensures.reads.asks.crash.clean) in
       let still : Refines (state g.S.Store c.check_names.new.conn).now world = asks_stands g.S.Store _ _ c.in_ok-check_names.field-0 c.in_ok-check_names.ensures.asks before world stands in
@@ -35,6 +37,7 @@ pub returns-in_err-next : goal.returns-in_err-next
 returns-in_err-next g c = record {
   asks = asks_then g.S.Store c.args.conn.now c.check_names.new.conn c.next_number.new.conn c.in_ok-check_names.field-0 c.in_ok-check_names.ensures.asks c.from_residual-in_err-next.result
       (asks_handed g.S.Store _ _ c.from_residual-in_err-next.result c.in_err-next.field-0.0 c.from_residual-in_err-next.ensures.1 c.in_err-next.ensures.reads.asks);
+  opens = λ never. absurd never;
   fault = search rules;
   found = search rules;
   unrefused = λ clean world stands project limit. let before : HasCleanDisk (state g.S.Store c.check_names.new.conn) = omega (arith, c.next_number.ensures.reads.asks.crash.clean) in

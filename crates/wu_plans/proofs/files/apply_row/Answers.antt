@@ -14,6 +14,7 @@ pub returns-clause-reads : goal.returns-clause-reads
 returns-clause-reads g c = record {
   asks = asks_then g.S.Store c.args.conn.now c.touch.new.conn c.find_class.new.conn c.in_ok-touch.field-0 c.in_ok-touch.ensures.asks (Ok c.apply.result)
       (asks_made g.S.Store _ _ c.in_ok-class.class (Ok c.apply.result) (λ is. absurd cc) c.in_ok-class.ensures.asks);
+  opens = λ never. absurd never;
   fault = search rules;
   found = λ clean world stands known rows verdicts before. let between : HasCleanDisk (state g.S.Store c.touch.new.conn) = omega (arith, c.find_class.ensures.asks.crash.clean) in
       let still : Refines (state g.S.Store c.touch.new.conn).now world = asks_stands g.S.Store _ _ c.in_ok-touch.field-0 c.in_ok-touch.ensures.asks between world stands in
@@ -32,6 +33,7 @@ pub returns-in_err-class-clause-reads : goal.returns-in_err-class-clause-reads
 returns-in_err-class-clause-reads g c = record {
   asks = asks_then g.S.Store c.args.conn.now c.touch.new.conn c.find_class.new.conn c.in_ok-touch.field-0 c.in_ok-touch.ensures.asks c.from_residual-in_err-class.result
       (asks_handed g.S.Store _ _ c.from_residual-in_err-class.result c.in_err-class.field-0.0 c.from_residual-in_err-class.ensures.1 c.in_err-class.ensures.asks);
+  opens = λ never. absurd never;
   fault = handed_told c.from_residual-in_err-class.result c.in_err-class.field-0.0 c.from_residual-in_err-class.ensures.1 c.in_err-class.ensures.fault;
   found = search rules;
   unrefused = λ clean world stands takes limit. let between : HasCleanDisk (state g.S.Store c.touch.new.conn) = omega (arith, c.find_class.ensures.asks.crash.clean) in

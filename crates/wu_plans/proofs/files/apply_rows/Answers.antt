@@ -13,7 +13,7 @@ use Rattle.wu_plans.proofs.files.apply_rows.Goals as goal
 pub loop-row-init : goal.loop-row-init
 loop-row-init g c = (
   rw c.new-verdicts.ensures.items (All-nil (λ verdict. verdict ≤ 9)),
-  reads_none g.S.Store _ tt (λ world stood known. rw (c.new-touched.ensures, c.new-verdicts.ensures.items) (no_rows_left (rule_in g.R.FileRow.rule g.R.FileRow.class_in world.classes) world)),
+  reads_none g.S.Store _ tt (λ never. never) (λ world stood known. rw (c.new-touched.ensures, c.new-verdicts.ensures.items) (no_rows_left (rule_in g.R.FileRow.rule g.R.FileRow.class_in world.classes) world)),
 )
 
 pub loop-row-preserved : goal.loop-row-preserved

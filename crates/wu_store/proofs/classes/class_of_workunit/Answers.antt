@@ -1,9 +1,9 @@
-use Rattle.wu_schema.proofs.Words.{None, Some, [], ap, arith, number, refl, state, subst, sym, ◌∙◌, ◌∷◌, ◌≡◌}
+use Rattle.wu_schema.proofs.Words.{None, Some, [], ap, number, refl, state, subst, sym, ◌∙◌, ◌∷◌, ◌≡◌}
 use Rattle.std.specs.Prelude.{IfSome}
 use Rattle.wu_core.specs.Storable.{IsClass}
 use Rattle.wu_schema.specs.declared.table.ProjectTable.TheVariants as the_table
 use Rattle.wu_schema.proofs.InsertEffect.{also, no_more}
-use Rattle.wu_store.proofs.AskLemmas.{asked_row, fault_read, handed_on, never_broken, nothing_handed, opens_handed, opens_made, read_handed, reads_also, reads_handed, reads_made, reads_unkeyed}
+use Rattle.wu_store.proofs.AskLemmas.{asked_row, fault_read, handed_on, never_broken, nothing_handed, read_handed, reads_also, reads_handed, reads_made, reads_unkeyed, reads_if}
 use Rattle.wu_store.proofs.ChangeLemmas.{sent_number}
 use Rattle.wu_store.proofs.ClassAnswers.{class_question, class_asked, class_fits, class_found, no_work, row_classed, shown_work}
 use Rattle.wu_store.proofs.LoadLemmas.{never_unread}
@@ -14,7 +14,6 @@ returns-in_err-key g c =
     let key = c.in_err-key.ensures in
     let same = c.from_residual.ensures.1 in
     record {
-      opens = λ low. absurd (omega (arith, low, key.beyond));
       reads = reads_handed g.S.Store _ _ _ _ same (reads_unkeyed g.S.Store _ c.args.number _ key.refused key.beyond) (λ other told world. tt) (λ world stood can. can.0);
     }
 
@@ -27,8 +26,7 @@ returns-in_err-row g c =
     let it = asked_row g.S.Store (class_question the_table.WorkunitClass (λ version known. known) class_asked class_fits (number n ∷ []) refl (λ _. refl)) c.args.conn.now c.ask_row.new.conn _ given (row_classed n)
     (class_found (state g.S.Store c.args.conn.now) (state g.S.Store c.ask_row.new.conn) n) _ q.asks q.opens q.shows q.fails q.told in
     record {
-      opens = λ low. opens_handed _ _ same g.S.Store c.ask_row.new.conn it.opens;
-      reads = reads_handed g.S.Store _ _ _ _ same it.reads (λ other told world. tt) (λ world stood can. tt);
+      reads = reads_handed g.S.Store _ _ _ _ same (reads_if (λ low. tt) it) (λ other told world. tt) (λ world stood can. tt);
     }
 
 pub returns-in_err-class_at-in-Some : goal.returns-in_err-class_at-in-Some
@@ -42,8 +40,7 @@ returns-in_err-class_at-in-Some g c =
     let it = asked_row g.S.Store (class_question the_table.WorkunitClass (λ version known. known) class_asked class_fits (number n ∷ []) refl (λ _. refl)) c.args.conn.now c.ask_row.new.conn _ given (row_classed n)
     (class_found (state g.S.Store c.args.conn.now) (state g.S.Store c.ask_row.new.conn) n) _ q.asks q.opens q.shows q.fails q.told in
     record {
-      opens = λ low. opens_made g.S.Store c.ask_row.new.conn _ it.opens;
-      reads = reads_also g.S.Store _ _ _ _ (never_broken _ refused) (fault_read _ refused) it.reads (λ world stood found. nothing_handed _ _ same _) (λ world stood found can.
+      reads = reads_also g.S.Store _ _ _ _ (never_broken _ refused) (fault_read _ refused) (reads_if (λ low. tt) it) (λ world stood found. nothing_handed _ _ same _) (λ world stood found can.
           let class = shown_work _ c.in-Some.row (sym (found) ∙ c.in-Some.is) in
           handed_on _ _ same (never_unread number IsClass _ _ class.0 reads (subst (λ o. IfSome o IsClass) class.1 can.1) class.2));
     }
@@ -58,8 +55,7 @@ returns-in_ok-class_at-in-Some g c =
     let it = asked_row g.S.Store (class_question the_table.WorkunitClass (λ version known. known) class_asked class_fits (number n ∷ []) refl (λ _. refl)) c.args.conn.now c.ask_row.new.conn _ given (row_classed n)
     (class_found (state g.S.Store c.args.conn.now) (state g.S.Store c.ask_row.new.conn) n) _ q.asks q.opens q.shows q.fails q.told in
     record {
-      opens = λ low. it.opens;
-      reads = reads_made g.S.Store _ _ _ (Some x) it.reads (λ world stood told.
+      reads = reads_made g.S.Store _ _ _ (Some x) (reads_if (λ low. tt) it) (λ world stood told.
           let class = shown_work _ c.in-Some.row (sym (told) ∙ c.in-Some.is) in
           let e : number x ≡ number class.0 = sym reads.value.0 ∙ class.2 in
           let k : x ≡ class.0 = cc in
@@ -74,6 +70,5 @@ returns-in-None g c =
     let it = asked_row g.S.Store (class_question the_table.WorkunitClass (λ version known. known) class_asked class_fits (number n ∷ []) refl (λ _. refl)) c.args.conn.now c.ask_row.new.conn _ given (row_classed n)
     (class_found (state g.S.Store c.args.conn.now) (state g.S.Store c.ask_row.new.conn) n) _ q.asks q.opens q.shows q.fails q.told in
     record {
-      opens = λ low. it.opens;
-      reads = reads_made g.S.Store _ _ _ None it.reads (λ world stood told. sym (no_work _ (sym (told) ∙ c.in-None.is)));
+      reads = reads_made g.S.Store _ _ _ None (reads_if (λ low. tt) it) (λ world stood told. sym (no_work _ (sym (told) ∙ c.in-None.is)));
     }

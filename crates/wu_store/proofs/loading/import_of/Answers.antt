@@ -5,7 +5,7 @@ use Rattle.wu_store.specs.Answers.{kept_of}
 use Rattle.wu_store.proofs.SelectTexts.{import_asked, import_fits}
 use Rattle.wu_store.proofs.ReadAnswers.{import_found}
 use Rattle.std.specs.Option.{option_copied}
-use Rattle.wu_store.proofs.AskLemmas.{asked_all, fault_read, handed_on, match_handed, opens_handed, opens_made, question, read_handed, read_told, reads_handed, reads_also, reads_made, never_broken}
+use Rattle.wu_store.proofs.AskLemmas.{asked_all, fault_read, handed_on, match_handed, question, read_handed, read_told, reads_handed, reads_also, reads_made, never_broken}
 use Rattle.wu_store.proofs.LoadLemmas.{import_read, no_first, none_earlier, one_first, some_earlier}
 use Rattle.wu_store.proofs.loading.import_of.Goals as goal
 
@@ -17,8 +17,7 @@ returns-in_err-rows g c =
     (also (ap bound_value c.params-to_sql.ensures ∙ ap number c.code.ensures) (also (ap bound_value c.params-to_sql-2.ensures ∙ ap (λ t. Text t) c.as_str.ensures) no_more)) (λ rows world. rows ≡ kept_of c.args.kind c.args.name.now world)
     (λ rows h world s. import_found (state g.S.Store c.args.conn.now) (state g.S.Store c.query.new.conn) world s c.args.kind c.args.name.now rows h) _ q.asks q.opens q.shows q.fails q.told in
     record {
-      opens = opens_handed _ _ same g.S.Store c.query.new.conn it.opens;
-      reads = reads_handed g.S.Store _ _ _ _ same it.reads (λ other told world. told) (λ world stands has. tt);
+      reads = reads_handed g.S.Store _ _ _ _ same it (λ other told world. told) (λ world stands has. tt);
     }
 
 pub returns-in_err-import_from-in-Some : goal.returns-in_err-import_from-in-Some
@@ -30,8 +29,7 @@ returns-in_err-import_from-in-Some g c =
     let same = c.from_residual-in_err-import_from-in-Some.ensures.1 in
     let refused = read_handed _ _ same c.in_err-import_from-in-Some.ensures.refused in
     record {
-      opens = opens_made g.S.Store c.query.new.conn _ asked.opens;
-      reads = reads_also g.S.Store _ _ _ _ (never_broken _ refused) (fault_read _ refused) asked.reads (λ world stands found. match_handed _ _ same _ (read_told _ c.in_err-import_from-in-Some.ensures.refused)) (λ world stands found has.
+      reads = reads_also g.S.Store _ _ _ _ (never_broken _ refused) (fault_read _ refused) asked (λ world stands found. match_handed _ _ same _ (read_told _ c.in_err-import_from-in-Some.ensures.refused)) (λ world stands found has.
           let first = one_first c.deref.result.now c.in-Some.row.now (sym c.first.ensures.value ∙ ap option_copied c.in-Some.is) in
           handed_on _ _ same (import_read c.args.kind c.args.name.now world c.in-Some.row.now first.0 (sym (c.deref.ensures.value ∙ found) ∙ first.1) _ c.in_err-import_from-in-Some.ensures has));
     }
@@ -43,8 +41,7 @@ returns-in-Some g c =
     (also (ap bound_value c.params-to_sql.ensures ∙ ap number c.code.ensures) (also (ap bound_value c.params-to_sql-2.ensures ∙ ap (λ t. Text t) c.as_str.ensures) no_more)) (λ rows world. rows ≡ kept_of c.args.kind c.args.name.now world)
     (λ rows h world s. import_found (state g.S.Store c.args.conn.now) (state g.S.Store c.query.new.conn) world s c.args.kind c.args.name.now rows h) (Ok c.in_ok-rows.rows) q.asks q.opens q.shows q.fails q.told in
     record {
-      opens = asked.opens;
-      reads = reads_made g.S.Store _ _ c.in_ok-rows.rows _ asked.reads (λ world stands found.
+      reads = reads_made g.S.Store _ _ c.in_ok-rows.rows _ asked (λ world stands found.
           let first = one_first c.deref.result.now c.in-Some.row.now (sym c.first.ensures.value ∙ ap option_copied c.in-Some.is) in
           some_earlier c.args.kind c.args.name.now world c.in-Some.row.now first.0 (sym (c.deref.ensures.value ∙ found) ∙ first.1) c.in_ok-import_from-in-Some.field-0 c.in_ok-import_from-in-Some.ensures);
     }
@@ -56,7 +53,6 @@ returns g c =
     (also (ap bound_value c.params-to_sql.ensures ∙ ap number c.code.ensures) (also (ap bound_value c.params-to_sql-2.ensures ∙ ap (λ t. Text t) c.as_str.ensures) no_more)) (λ rows world. rows ≡ kept_of c.args.kind c.args.name.now world)
     (λ rows h world s. import_found (state g.S.Store c.args.conn.now) (state g.S.Store c.query.new.conn) world s c.args.kind c.args.name.now rows h) (Ok c.in_ok-rows.rows) q.asks q.opens q.shows q.fails q.told in
     record {
-      opens = asked.opens;
-      reads = reads_made g.S.Store _ _ c.in_ok-rows.rows None asked.reads (λ world stands found.
+      reads = reads_made g.S.Store _ _ c.in_ok-rows.rows None asked (λ world stands found.
           none_earlier c.args.kind c.args.name.now world (sym (c.deref.ensures.value ∙ found) ∙ no_first c.deref.result.now (sym c.first.ensures.value ∙ ap option_copied c.in-None.is)));
     }

@@ -2,7 +2,7 @@ use Rattle.wu_schema.proofs.Words.{Ok, [], number, refl, state, ◌∙◌, ◌�
 use Rattle.wu_schema.specs.declared.table.ProjectTable.TheVariants as the_table
 use Rattle.wu_schema.proofs.InsertEffect.{also, no_more}
 use Rattle.wu_store.specs.Answers.{instance_rows_of}
-use Rattle.wu_store.proofs.AskLemmas.{asked_all, fault_read, never_broken, nothing_handed, question, reads_also, reads_handed, reads_unkeyed}
+use Rattle.wu_store.proofs.AskLemmas.{asked_all, fault_read, never_broken, nothing_handed, question, reads_also, reads_handed, reads_unkeyed, reads_if}
 use Rattle.wu_store.proofs.ChangeLemmas.{sent_number}
 use Rattle.wu_store.proofs.SelectTexts.{instances_asked, instances_fits}
 use Rattle.wu_store.proofs.InstanceAnswers as answers
@@ -26,7 +26,7 @@ returns-in_err-rows g c =
     (λ rows h world s. answers.instances_found (state g.S.Store c.args.conn.now) (state g.S.Store c.query.new.conn) world s c.args.workunit rows h) _ q.asks q.opens q.shows q.fails q.told in
     record {
       stored = nothing_handed _ _ same _;
-      reads = reads_handed g.S.Store _ _ _ _ same it.reads (λ other told world. told) (λ world stands has. tt);
+      reads = reads_handed g.S.Store _ _ _ _ same (reads_if (λ low. tt) it) (λ other told world. told) (λ world stands has. tt);
     }
 
 pub returns : goal.returns
@@ -38,5 +38,5 @@ returns g c =
     (λ rows h world s. answers.instances_found (state g.S.Store c.args.conn.now) (state g.S.Store c.query.new.conn) world s c.args.workunit rows h) (Ok c.in_ok-rows.rows) q.asks q.opens q.shows q.fails q.told in
     record {
       stored = instances_stored _ r reads;
-      reads = reads_also g.S.Store _ _ _ _ (never_broken _ reads.refused) (fault_read _ reads.refused) it.reads (λ world stands found. instances_found c.args.workunit world _ (c.deref.ensures.value ∙ found) r reads) (λ world stands found has. instances_read c.args.workunit world _ (c.deref.ensures.value ∙ found) r reads has.1);
+      reads = reads_also g.S.Store _ _ _ _ (never_broken _ reads.refused) (fault_read _ reads.refused) (reads_if (λ low. tt) it) (λ world stands found. instances_found c.args.workunit world _ (c.deref.ensures.value ∙ found) r reads) (λ world stands found has. instances_read c.args.workunit world _ (c.deref.ensures.value ∙ found) r reads has.1);
     }

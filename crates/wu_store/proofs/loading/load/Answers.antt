@@ -1,5 +1,5 @@
 use Rattle.wu_schema.proofs.Words.{Workunit, ◌==◌}
-use Rattle.wu_store.proofs.AskLemmas.{nothing_handed, opens_handed, opens_then, reads_handed, reads_can}
+use Rattle.wu_store.proofs.AskLemmas.{nothing_handed, reads_handed, reads_can}
 use Rattle.wu_store.proofs.LoadLemmas.{load_then}
 use Rattle.wu_store.proofs.loading.load.Goals as goal
 
@@ -8,7 +8,6 @@ returns-in_err-row g c =
     let it = c.in_err-row.ensures in
     let same = c.from_residual.ensures.1 in
     record {
-      opens = λ low. opens_handed _ _ same g.S.Store c.numbered_row.new.conn (it.opens low);
       formed = nothing_handed _ _ same _;
       reads = reads_handed g.S.Store _ _ _ _ same it.reads (λ other told world known. told) (λ world stands can. can.1);
     }
@@ -17,7 +16,6 @@ pub returns : goal.returns
 returns g c =
     let it = c.in_ok-row.ensures in
     record {
-      opens = λ low. opens_then g.S.Store _ _ (it.opens low) _ c.whole.ensures.reads.asks;
       formed = c.whole.ensures.formed;
       reads = reads_can (λ world stands can. (can.0, can.2)) (load_then g.S.Store _ _ _ (λ (w : Workunit). w.number == c.args.number) _ _ it.reads c.whole.ensures.reads);
     }

@@ -1,7 +1,7 @@
 use Rattle.wu_schema.proofs.Words.{Ok, [], refl, state}
 use Rattle.wu_schema.specs.declared.table.ProjectTable.TheVariants as the_table
 use Rattle.wu_store.specs.Answers.{last_archived}
-use Rattle.wu_store.proofs.AskLemmas.{asked_row, fault_read, nothing_handed, opens_handed, opens_made, reads_handed, reads_also, never_broken}
+use Rattle.wu_store.proofs.AskLemmas.{asked_row, fault_read, nothing_handed, reads_handed, reads_also, never_broken}
 use Rattle.wu_store.proofs.LastLemmas.{archived_text, archived_fits, archived_found, last_question}
 use Rattle.wu_store.proofs.LoadLemmas.{place_known, place_read}
 use Rattle.wu_store.proofs.loading.next_archived_place.Goals as goal
@@ -14,8 +14,7 @@ returns-in_err-last g c =
     (λ rows h world s. archived_found (state g.S.Store c.args.conn.now) (state g.S.Store c.ask_row.new.conn) world s rows h) _ q.asks q.opens q.shows q.fails q.told in
     record {
       within = nothing_handed _ _ same _;
-      opens = opens_handed _ _ same g.S.Store c.ask_row.new.conn it.opens;
-      reads = reads_handed g.S.Store _ _ _ _ same it.reads (λ other told world. told) (λ world stands any. tt);
+      reads = reads_handed g.S.Store _ _ _ _ same it (λ other told world. told) (λ world stands any. tt);
     }
 
 pub returns : goal.returns
@@ -28,6 +27,5 @@ returns g c =
     (λ rows h world s. archived_found (state g.S.Store c.args.conn.now) (state g.S.Store c.ask_row.new.conn) world s rows h) (Ok last) q.asks q.opens q.shows q.fails q.told in
     record {
       within = c.place_behind.ensures.within;
-      opens = opens_made g.S.Store c.ask_row.new.conn _ it.opens;
-      reads = reads_also g.S.Store _ _ _ _ (never_broken _ reads.refused) (fault_read _ reads.refused) it.reads (λ world stands found. place_known world.archived last r found reads) (λ world stands found any. place_read world.archived last r found reads);
+      reads = reads_also g.S.Store _ _ _ _ (never_broken _ reads.refused) (fault_read _ reads.refused) it (λ world stands found. place_known world.archived last r found reads) (λ world stands found any. place_read world.archived last r found reads);
     }

@@ -1,7 +1,7 @@
 use Rattle.wu_schema.proofs.Words.{Err, Some, [], inr, refl, state, sym, ◌∙◌, ◌≡◌}
 use Rattle.wu_schema.specs.declared.table.ProjectTable.TheVariants as the_table
 use Rattle.wu_core.specs.declared.fault.Fault.TheVariants.{NotAProject}
-use Rattle.wu_store.proofs.AskLemmas.{asked_row, fault_read, nothing_handed, opens_handed, opens_made, question, reads_handed, reads_also, never_broken}
+use Rattle.wu_store.proofs.AskLemmas.{asked_row, fault_read, nothing_handed, question, reads_handed, reads_also, never_broken}
 use Rattle.wu_store.specs.Answers.{next_row}
 use Rattle.wu_store.proofs.ReadAnswers.{next_found}
 use Rattle.wu_store.proofs.SelectTexts.{next_asked, next_fits}
@@ -17,8 +17,7 @@ returns-in_err-row g c =
     (λ found h world s. next_found (state g.S.Store c.args.conn.now) (state g.S.Store c.ask_row.new.conn) world s found h) _ q.asks q.opens q.shows q.fails q.told in
     record {
       within = nothing_handed _ _ same _;
-      opens = opens_handed _ _ same g.S.Store c.ask_row.new.conn it.opens;
-      reads = reads_handed g.S.Store _ _ _ _ same it.reads (λ other told world. told) (λ world stands has. tt);
+      reads = reads_handed g.S.Store _ _ _ _ same it (λ other told world. told) (λ world stands has. tt);
     }
 
 pub returns-in-Some : goal.returns-in-Some
@@ -30,8 +29,7 @@ returns-in-Some g c =
     let reads = c.next_number_from.ensures.reads in
     record {
       within = next_within c.in-Some.row r reads;
-      opens = opens_made g.S.Store c.ask_row.new.conn _ asked.opens;
-      reads = reads_also g.S.Store _ _ _ _ (never_broken _ reads.refused) (fault_read _ reads.refused) asked.reads (λ world stands found.
+      reads = reads_also g.S.Store _ _ _ _ (never_broken _ reads.refused) (fault_read _ reads.refused) asked (λ world stands found.
           let row_is : c.in-Some.row ≡ next_row world = same_some (sym c.in-Some.is ∙ found) in
           next_is world.next_number c.in-Some.row r row_is reads) (λ world stands found has.
           let row_is : c.in-Some.row ≡ next_row world = same_some (sym c.in-Some.is ∙ found) in
@@ -45,6 +43,5 @@ returns-in-None g c =
     (λ found h world s. next_found (state g.S.Store c.args.conn.now) (state g.S.Store c.ask_row.new.conn) world s found h) _ q.asks q.opens q.shows q.fails q.told in
     record {
       within = tt;
-      opens = λ clean. inr (asked.opens clean);
-      reads = reads_also g.S.Store _ _ _ (Err NotAProject) (λ is. absurd cc) (inr (inr refl)) asked.reads (λ world stands found. inr (inr refl)) (λ world stands found has refused. absurd (let no = sym c.in-None.is ∙ found in cc));
+      reads = reads_also g.S.Store _ _ _ (Err NotAProject) (λ is. absurd cc) (inr (inr refl)) asked (λ world stands found. inr (inr refl)) (λ world stands found has refused. absurd (let no = sym c.in-None.is ∙ found in cc));
     }

@@ -1,12 +1,12 @@
 use Rattle.std.proofs.Common.{refl, subst, sym}
-use Rattle.wu_tables.specs.Found.{Finds, HasQueueIn}
+use Rattle.wu_tables.specs.Found.{FindsPlace, HasQueueIn}
 use Rattle.wu_tables.proofs.FoundLemmas.{named_same}
 use Rattle.wu_tables.proofs.queue.queue_tree.Goals as goal
 
 pub returns-in_err-tree : goal.returns-in_err-tree
 returns-in_err-tree c =
     let form = c.queue_form.ensures in
-    subst (Finds (HasQueueIn c.args.schema.now)) (sym c.from_residual.ensures) (λ tree has. c.in_err-tree.ensures tree (named_same c.args.schema.now (sym form.name) (sym (form.table tree)) has.table))
+    subst (FindsPlace (HasQueueIn c.args.schema.now)) (sym c.from_residual.ensures) (λ tree has. c.in_err-tree.ensures tree (named_same c.args.schema.now (sym form.name) (sym (form.table tree)) has.table))
 
 pub returns-then-has_indexes : goal.returns-then-has_indexes
 returns-then-has_indexes c =

@@ -11,4 +11,4 @@ returns g c =
     let q = c.ask_count.ensures in
     let it = asked_count g.S.Store (class_count_question the_table.HostClass (λ version known. known) (counting COUNT_CLASSES.now) classes_fit [] refl (λ _. refl)) c.args.conn.now c.ask_count.new.conn [] refl class_count
     (λ rows h world stood. classes_counted (state g.S.Store c.args.conn.now) (state g.S.Store c.ask_count.new.conn) world stood.1 rows stood.0 h) _ q.asks q.opens q.shows q.fails q.told in
-    record { opens = it.opens; reads = it.reads }
+    record { reads = it }

@@ -11,4 +11,4 @@ returns g c =
     let q = c.ask_count.ensures in
     let it = asked_count g.S.Store (count_question the_table.Import (λ _. tt) (counting COUNT_IMPORTS.now) imports_fit [] refl (λ _. refl)) c.args.conn.now c.ask_count.new.conn [] refl import_count
     (λ rows h world s. imports_counted (state g.S.Store c.args.conn.now) (state g.S.Store c.ask_count.new.conn) world s rows h) _ q.asks q.opens q.shows q.fails q.told in
-    record { opens = it.opens; reads = it.reads }
+    record { reads = it }

@@ -30,8 +30,8 @@ returns-clause-counted g c clean =
     let third : HasCleanDisk (state g.S.Store c.count_others.new.conn) = omega (arith, c.count_grants.ensures.reads.asks.crash.clean, clean) in
     let second : HasCleanDisk (state g.S.Store c.count_results.new.conn) = omega (arith, c.count_others.ensures.reads.asks.crash.clean, third) in
     let first : HasCleanDisk (state g.S.Store c.read_numbers.new.conn) = omega (arith, c.count_results.ensures.reads.asks.crash.clean, second) in
-    let before = asks_unchanged g.S.Store _ _ c.in_ok-numbers.numbers c.in_ok-numbers.ensures.reads.asks c.in_ok-numbers.ensures.opens first in
-    let after = unchanged_then _ _ _ (asks_unchanged g.S.Store _ _ c.in_ok-others.others c.in_ok-others.ensures.reads.asks c.in_ok-others.ensures.opens third) (asks_unchanged g.S.Store _ _ c.in_ok-granted.granted c.in_ok-granted.ensures.reads.asks c.in_ok-granted.ensures.opens clean) in
+    let before = asks_unchanged g.S.Store _ _ c.in_ok-numbers.numbers c.in_ok-numbers.ensures.reads.asks (c.in_ok-numbers.ensures.reads.opens tt) first in
+    let after = unchanged_then _ _ _ (asks_unchanged g.S.Store _ _ c.in_ok-others.others c.in_ok-others.ensures.reads.asks (c.in_ok-others.ensures.reads.opens tt) third) (asks_unchanged g.S.Store _ _ c.in_ok-granted.granted c.in_ok-granted.ensures.reads.asks (c.in_ok-granted.ensures.reads.opens tt) clean) in
     counted_between (state g.S.Store c.args.conn.now) (state g.S.Store c.read_numbers.new.conn) (state g.S.Store c.count_results.new.conn) (state g.S.Store c.count_grants.new.conn) c.in_ok-results.results before (c.in_ok-results.ensures.counted second) after
 
 pub returns-clause-summed : goal.returns-clause-summed
@@ -39,9 +39,9 @@ returns-clause-summed g c clean =
     let third : HasCleanDisk (state g.S.Store c.count_others.new.conn) = omega (arith, c.count_grants.ensures.reads.asks.crash.clean, clean) in
     let second : HasCleanDisk (state g.S.Store c.count_results.new.conn) = omega (arith, c.count_others.ensures.reads.asks.crash.clean, third) in
     let first : HasCleanDisk (state g.S.Store c.read_numbers.new.conn) = omega (arith, c.count_results.ensures.reads.asks.crash.clean, second) in
-    let numbers = asks_unchanged g.S.Store _ _ c.in_ok-numbers.numbers c.in_ok-numbers.ensures.reads.asks c.in_ok-numbers.ensures.opens first in
-    let results = asks_unchanged g.S.Store _ _ c.in_ok-results.results c.in_ok-results.ensures.reads.asks c.in_ok-results.ensures.opens second in
-    let others = asks_unchanged g.S.Store _ _ c.in_ok-others.others c.in_ok-others.ensures.reads.asks c.in_ok-others.ensures.opens third in
+    let numbers = asks_unchanged g.S.Store _ _ c.in_ok-numbers.numbers c.in_ok-numbers.ensures.reads.asks (c.in_ok-numbers.ensures.reads.opens tt) first in
+    let results = asks_unchanged g.S.Store _ _ c.in_ok-results.results c.in_ok-results.ensures.reads.asks (c.in_ok-results.ensures.reads.opens tt) second in
+    let others = asks_unchanged g.S.Store _ _ c.in_ok-others.others c.in_ok-others.ensures.reads.asks (c.in_ok-others.ensures.reads.opens tt) third in
     summed_since (state g.S.Store c.args.conn.now) (state g.S.Store c.count_others.new.conn) (state g.S.Store c.count_grants.new.conn) c.in_ok-granted.granted (unchanged_then _ _ _ numbers (unchanged_then _ _ _ results others)) (c.in_ok-granted.ensures.counted clean)
 
 pub returns-clause-reads : goal.returns-clause-reads

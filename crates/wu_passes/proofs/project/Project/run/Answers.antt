@@ -47,7 +47,7 @@ returns-in-Ok-clause-runs g c goes_on =
     let was = state g.S.Store c.args.self.now.conn in
     let mid = state g.S.Store c.prepare.new.self.conn in
     let before : HasCleanDisk (state g.S.Store c.carry_out.new.self.conn) → HasCleanDisk mid = λ clean. omega (arith, c.carry_out.ensures.session.clean) in
-    let is_open : HasCleanDisk mid → IsTrue was.is_open = λ clean. (c.prepare.ensures.reads.asks.back clean).was_open (c.in-Ok.ensures.opens clean) in
+    let is_open : HasCleanDisk mid → IsTrue was.is_open = λ clean. (c.prepare.ensures.reads.asks.back clean).was_open (c.in-Ok.ensures.reads.opens tt clean) in
     let still : HasCleanDisk mid → (world : World) → StandsFor was.now world → StandsFor mid.now world = λ clean world stands. asks_over g.S.Store c.args.self.now.conn c.prepare.new.self.conn c.in-Ok.field-0 c.in-Ok.ensures.reads.asks clean world stands in
     let any : HasCleanDisk (state g.S.Store c.carry_out.new.self.conn) → (world : World) → IsProject world → GoesOn was world → Runs world (request_of c.args.command.now) c.carry_out.new.self.has_ended (state g.S.Store c.carry_out.new.self.conn) c.carry_out.result =
     λ clean world project goes.
@@ -72,7 +72,7 @@ returns-in-Err-clause-runs g c goes_on =
     let was = state g.S.Store c.args.self.now.conn in
     let now = state g.S.Store c.prepare.new.self.conn in
     let told : HasCleanDisk now → (world : World) → IsProject world → ShowsWorld was world → (reply world (request_of c.args.command.now) ≡ Err c.in-Err.refusal) ⊎ IsStoreFault c.in-Err.refusal =
-    λ clean world project shows. plan_refused was now world _ c.in-Err.refusal shows (c.prepare.ensures.reads.asks.back clean) (c.in-Err.ensures.opens clean) (λ stands. c.in-Err.ensures.reads.found clean world stands project) in
+    λ clean world project shows. plan_refused was now world _ c.in-Err.refusal shows (c.prepare.ensures.reads.asks.back clean) (c.in-Err.ensures.reads.opens tt clean) (λ stands. c.in-Err.ensures.reads.found clean world stands project) in
     let any : HasCleanDisk now → (world : World) → IsProject world → GoesOn was world → Runs world (request_of c.args.command.now) c.prepare.new.self.has_ended now (Err c.in-Err.refusal) =
     λ clean world project goes. (
       told clean world project goes.stands,
@@ -90,17 +90,17 @@ returns-in-Err-clause-runs g c goes_on =
 pub returns-in-Ok-clause-why : goal.returns-in-Ok-clause-why
 returns-in-Ok-clause-why g c goes_on clean unlimited world shows =
     let before : HasCleanDisk (state g.S.Store c.prepare.new.self.conn) = omega (arith, c.carry_out.ensures.session.clean) in
-    let is_open : IsTrue (state g.S.Store c.args.self.now.conn).is_open = (c.prepare.ensures.reads.asks.back before).was_open (c.in-Ok.ensures.opens before) in
+    let is_open : IsTrue (state g.S.Store c.args.self.now.conn).is_open = (c.prepare.ensures.reads.asks.back before).was_open (c.in-Ok.ensures.reads.opens tt before) in
     let planned = c.in-Ok.ensures.reads.found before world (shows.shows is_open).0 shows.is_project in
     cut_why _ _ world _ c.in-Ok.field-0.answer c.in-Ok.field-0.changes.items c.carry_out.result planned (λ empty. (c.carry_out.ensures.none (c.as_slice.ensures.value ∙ empty)).0) c.carry_out.ensures.cause
 
 pub returns-in-Err-clause-why : goal.returns-in-Err-clause-why
 returns-in-Err-clause-why g c goes_on clean unlimited world shows =
-    let told = plan_refused (state g.S.Store c.args.self.now.conn) (state g.S.Store c.prepare.new.self.conn) world _ c.in-Err.refusal shows.shows (c.prepare.ensures.reads.asks.back clean) (c.in-Err.ensures.opens clean) (λ stands. c.in-Err.ensures.reads.found clean world stands shows.is_project) in
+    let told = plan_refused (state g.S.Store c.args.self.now.conn) (state g.S.Store c.prepare.new.self.conn) world _ c.in-Err.refusal shows.shows (c.prepare.ensures.reads.asks.back clean) (c.in-Err.ensures.reads.opens tt clean) (λ stands. c.in-Err.ensures.reads.found clean world stands shows.is_project) in
     unplanned_why _ c.prepare.new.self.has_ended world _ c.in-Err.refusal (λ over. error_is _ _ (sym c.in-Err.is ∙ c.prepare.ensures.session.ends goes_on over)) (λ broken. c.prepare.ensures.session.broken (c.in-Err.is ∙ ap Err broken))
     (λ broken. c.in-Err.ensures.reads.asks.broken clean (ap Err broken))
     (λ refused.
-    let still = refused_open (state g.S.Store c.prepare.new.self.conn) c.in-Err.refusal refused (c.in-Err.ensures.opens clean) in
+    let still = refused_open (state g.S.Store c.prepare.new.self.conn) c.in-Err.refusal refused (c.in-Err.ensures.reads.opens tt clean) in
     let stands = (shows.shows ((c.prepare.ensures.reads.asks.back clean).was_open still)).0 in
     c.in-Err.ensures.reads.unrefused clean world stands shows.is_project unlimited refused)
     told
@@ -124,7 +124,7 @@ returns-then-not-has_right_limits-clause-untouched g c clean = inr (keeps_self _
 pub returns-in-Ok-clause-idle : goal.returns-in-Ok-clause-idle
 returns-in-Ok-clause-idle g c goes_on clean world shows nothing =
     let before : HasCleanDisk (state g.S.Store c.prepare.new.self.conn) = omega (arith, c.carry_out.ensures.session.clean) in
-    let is_open : IsTrue (state g.S.Store c.args.self.now.conn).is_open = (c.prepare.ensures.reads.asks.back before).was_open (c.in-Ok.ensures.opens before) in
+    let is_open : IsTrue (state g.S.Store c.args.self.now.conn).is_open = (c.prepare.ensures.reads.asks.back before).was_open (c.in-Ok.ensures.reads.opens tt before) in
     let planned = c.in-Ok.ensures.reads.found before world (shows.shows is_open).0 shows.is_project in
     let kept = keeps_as_before g.S.Store c.args.self.now.conn c.prepare.new.self.conn before c.prepare.ensures.reads.asks.crash (c.in-Ok.ensures.reads.asks.answered before) in
     idle_keeps g.S.Store c.args.self.now.conn c.prepare.new.self.conn c.carry_out.new.self.conn c.in-Ok.field-0.answer c.in-Ok.field-0.changes.items c.carry_out.result (planned.idle nothing)
