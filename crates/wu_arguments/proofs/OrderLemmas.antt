@@ -4,7 +4,7 @@ use Rattle.std.proofs.lemmas.Slice.Eq.{bytes_eq-Decides}
 use Rattle.clap.specs.Words.{Row, subcommand_of}
 use Rattle.wu_arguments.specs.CommandLine.{all_subcommands, program, subcommand_name, subcommand_named}
 use Rattle.wu_arguments.specs.Lines.{IsOrder}
-use Rattle.wu_arguments.specs.Refusals.{Explains, IsIncomplete, IsOrderOf, IsUnread, LacksOfNamed, OfTaken}
+use Rattle.wu_arguments.specs.Refusals.{Explains, IsIncomplete, IsOrderOf, RefusesValues, LacksOfNamed, OfTaken}
 use Rattle.wu_arguments.specs.declared.order.Order.{Order}
 use Rattle.wu_arguments.specs.declared.order.Order.TheVariants as order
 use Rattle.wu_arguments.specs.declared.subcommand.Subcommand.{Subcommand}
@@ -32,7 +32,7 @@ module _ (name : List ℕ) (rows : List Row) (asked : Subcommand) (among : Optio
       sym its ∙ is ∙ ap {B = Option (List ℕ × List Row)} (λ n. Some (n, rows)) (its_name name asked all_subcommands named ∙ ap subcommand_name same)
 
   -- what words ask for in which clap finds it
-  pub found : (result : Result Order Usage) → IfOk result (IsOrder rows asked) → IfErr result (IsUnread rows asked) → record {
+  pub found : (result : Result Order Usage) → IfOk result (IsOrder rows asked) → IfErr result (RefusesValues rows asked) → record {
     order : IfOk result (λ order. OfTaken (λ words. IsOrderOf words order) among);
     refused : IfErr result (λ usage. OfTaken (λ words. Explains words usage) among);
   }

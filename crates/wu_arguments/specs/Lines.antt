@@ -61,19 +61,19 @@ IsTemplate found Batch template = value_in found option.Template ≡ template
 IsTemplate found kind template = template ≡ None
 
 -- A line asks for this subcommand, with the values that clap finds of its options.
-abbrev pub HasOptionValues : List Row → Subcommand → Asking → Type 0
-HasOptionValues found (subcommand.Import kind) (asking.Import its name file template) =
+abbrev pub HoldsValues : List Row → Subcommand → Asking → Type 0
+HoldsValues found (subcommand.Import kind) (asking.Import its name file template) =
     (its ≡ kind) × IsTextIn found option.Name name × IsTextIn found (file_option kind) file × IsTemplate found kind template
-HasOptionValues found (subcommand.Pass pass) (asking.Pass its now limit min_age) =
+HoldsValues found (subcommand.Pass pass) (asking.Pass its now limit min_age) =
     (its ≡ pass) × IsTextIf (takes_moment pass) found option.Now now × IsNumberIn found option.Limit limit × IsNumberIf (takes_age pass) found option.MinAge min_age
-HasOptionValues found subcommand.Cycle (asking.Cycle now limit min_age) =
+HoldsValues found subcommand.Cycle (asking.Cycle now limit min_age) =
     IsTextIn found option.Now now × IsNumberIn found option.Limit limit × IsNumberIn found option.MinAge min_age
-HasOptionValues found subcommand.Cancel (asking.Cancel workunit) = IsTextIn found option.Workunit workunit
-HasOptionValues found subcommand.Show (asking.Show view) = IsViewIn found (Some view)
-HasOptionValues found subcommand.Imports (asking.Imports name) = value_in found option.Imported ≡ name
-HasOptionValues found subcommand.Status (asking.Status now) = IsTextIn found option.Now now
-HasOptionValues found subcommand.Upgrade asking.Upgrade = ⊤
-HasOptionValues found _ _ = ⊥
+HoldsValues found subcommand.Cancel (asking.Cancel workunit) = IsTextIn found option.Workunit workunit
+HoldsValues found subcommand.Show (asking.Show view) = IsViewIn found (Some view)
+HoldsValues found subcommand.Imports (asking.Imports name) = value_in found option.Imported ≡ name
+HoldsValues found subcommand.Status (asking.Status now) = IsTextIn found option.Now now
+HoldsValues found subcommand.Upgrade asking.Upgrade = ⊤
+HoldsValues found _ _ = ⊥
 
 -- The words ask for this line, over the database that clap finds.
 abbrev pub IsLineIn : List Row → Asking → Order → Type 0
@@ -93,7 +93,7 @@ IsExport found asked (export.Outputs files) =
 
 -- The words ask for this subcommand, with the values that clap finds of its options.
 abbrev pub IsOrder : List Row → Subcommand → Order → Type 0
-IsOrder found asked (order.Line line) = IsTextIn found option.Database line.db × HasOptionValues found asked line.asking
+IsOrder found asked (order.Line line) = IsTextIn found option.Database line.db × HoldsValues found asked line.asking
 IsOrder found asked (order.Script script) =
     (asked ≡ subcommand.Script) × IsTextIn found option.Database script.db × IsTextIn found option.Commands script.file
 IsOrder found asked (order.Session path) = (asked ≡ subcommand.Session) × IsTextIn found option.Database path

@@ -98,8 +98,8 @@ abbrev pub IsUnseen : List Row → Usage → Type 0
 IsUnseen found usage = TellsLack (LacksText found option.View) usage ⊎ ((usage ≡ UnknownView) × IsViewIn found None)
 
 -- Why words are no line of a subcommand: an option that has to be given lacks a value, or the view is unknown.
-abbrev pub IsUnread : List Row → Subcommand → Usage → Type 0
-IsUnread found subcommand usage = IsLacking found subcommand usage ⊎ ((usage ≡ UnknownView) × (subcommand ≡ Show) × IsViewIn found None)
+abbrev pub RefusesValues : List Row → Subcommand → Usage → Type 0
+RefusesValues found subcommand usage = IsLacking found subcommand usage ⊎ ((usage ≡ UnknownView) × (subcommand ≡ Show) × IsViewIn found None)
 
 abbrev pub LacksOfNamed : List Row → Option Subcommand → Type 0
 LacksOfNamed found None = ⊤

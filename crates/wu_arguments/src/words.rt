@@ -3,8 +3,8 @@
 ghost use Rattle.std.specs.Prelude.{◌≡◌, map, string_bytes, IfErr, IfOk, None};
 ghost use Rattle.clap.specs.Words.{found_of, rows_of, subcommand_rows_of};
 ghost use Rattle.wu_arguments.specs.CommandLine.{file_option, takes_age, takes_moment};
-ghost use Rattle.wu_arguments.specs.Lines.{HasOptionValues, IsLineIn, IsNumberIf, IsOrder, IsTemplate, IsTextIf};
-ghost use Rattle.wu_arguments.specs.Refusals.{Explains, HasText, IsLacking, IsOrderOf, IsSeen, IsUnread, IsWithout, LacksText, OfTaken, WantsOnly};
+ghost use Rattle.wu_arguments.specs.Lines.{HoldsValues, IsLineIn, IsNumberIf, IsOrder, IsTemplate, IsTextIf};
+ghost use Rattle.wu_arguments.specs.Refusals.{Explains, HasText, IsLacking, IsOrderOf, IsSeen, RefusesValues, IsWithout, LacksText, OfTaken, WantsOnly};
 
 use crate::line::{Asking, Line};
 use crate::option::LineOption;
@@ -45,7 +45,7 @@ fn template(alloc: Global, kind: ImportKind, found: &ArgMatches<'_>) -> Result<O
 /// Reads the values of an import.
 fn read_import(alloc: Global, kind: ImportKind, found: &ArgMatches<'_>) -> Result<Asking, Usage>
     ensures asking { IfOk result
-        (HasOptionValues (rows_of (found_of found.now)) (Subcommand.Import kind)) }
+        (HoldsValues (rows_of (found_of found.now)) (Subcommand.Import kind)) }
     ensures refused { IfErr result
         (IsLacking (rows_of (found_of found.now)) (Subcommand.Import kind)) }
 {
@@ -97,7 +97,7 @@ fn min_age(pass: Pass, found: &ArgMatches<'_>) -> Result<Option<u64>, Usage>
 /// Reads the values of a pass.
 fn read_pass(alloc: Global, pass: Pass, found: &ArgMatches<'_>) -> Result<Asking, Usage>
     ensures asking { IfOk result
-        (HasOptionValues (rows_of (found_of found.now)) (Subcommand.Pass pass)) }
+        (HoldsValues (rows_of (found_of found.now)) (Subcommand.Pass pass)) }
     ensures refused { IfErr result
         (IsLacking (rows_of (found_of found.now)) (Subcommand.Pass pass)) }
 {
@@ -111,7 +111,7 @@ fn read_pass(alloc: Global, pass: Pass, found: &ArgMatches<'_>) -> Result<Asking
 
 /// Reads the values of a cycle.
 fn read_cycle(alloc: Global, found: &ArgMatches<'_>) -> Result<Asking, Usage>
-    ensures asking { IfOk result (HasOptionValues (rows_of (found_of found.now)) Subcommand.Cycle) }
+    ensures asking { IfOk result (HoldsValues (rows_of (found_of found.now)) Subcommand.Cycle) }
     ensures refused { IfErr result (IsLacking (rows_of (found_of found.now)) Subcommand.Cycle) }
 {
     Ok(Asking::Cycle {
@@ -123,7 +123,7 @@ fn read_cycle(alloc: Global, found: &ArgMatches<'_>) -> Result<Asking, Usage>
 
 /// Reads the values of a cancel.
 fn read_cancel(alloc: Global, found: &ArgMatches<'_>) -> Result<Asking, Usage>
-    ensures asking { IfOk result (HasOptionValues (rows_of (found_of found.now)) Subcommand.Cancel) }
+    ensures asking { IfOk result (HoldsValues (rows_of (found_of found.now)) Subcommand.Cancel) }
     ensures refused { IfErr result (IsLacking (rows_of (found_of found.now)) Subcommand.Cancel) }
 {
     Ok(Asking::Cancel {
@@ -133,7 +133,7 @@ fn read_cancel(alloc: Global, found: &ArgMatches<'_>) -> Result<Asking, Usage>
 
 /// Reads the name of the imports that are shown, where one is given.
 fn read_imports(alloc: Global, found: &ArgMatches<'_>) -> Result<Asking, Usage>
-    ensures asking { IfOk result (HasOptionValues (rows_of (found_of found.now)) Subcommand.Imports) }
+    ensures asking { IfOk result (HoldsValues (rows_of (found_of found.now)) Subcommand.Imports) }
     ensures refused { IfErr result (IsLacking (rows_of (found_of found.now)) Subcommand.Imports) }
 {
     Ok(Asking::Imports {
@@ -143,7 +143,7 @@ fn read_imports(alloc: Global, found: &ArgMatches<'_>) -> Result<Asking, Usage>
 
 /// Reads the moment of what waits.
 fn read_status(alloc: Global, found: &ArgMatches<'_>) -> Result<Asking, Usage>
-    ensures asking { IfOk result (HasOptionValues (rows_of (found_of found.now)) Subcommand.Status) }
+    ensures asking { IfOk result (HoldsValues (rows_of (found_of found.now)) Subcommand.Status) }
     ensures refused { IfErr result (IsLacking (rows_of (found_of found.now)) Subcommand.Status) }
 {
     Ok(Asking::Status {
@@ -229,7 +229,7 @@ fn read_topic(alloc: Global, found: &ArgMatches<'_>) -> Result<Order, Usage>
 /// unknown one is never reported as out of memory.
 fn order_of(alloc: Global, subcommand: Subcommand, found: &ArgMatches<'_>) -> Result<Order, Usage>
     ensures order { IfOk result (IsOrder (rows_of (found_of found.now)) subcommand) }
-    ensures refused { IfErr result (IsUnread (rows_of (found_of found.now)) subcommand) }
+    ensures refused { IfErr result (RefusesValues (rows_of (found_of found.now)) subcommand) }
     // An unknown view is never reported as out of memory.
     ensures wants { WantsOnly result
         (subcommand ≡ Subcommand.Show → IsSeen (rows_of (found_of found.now))) }

@@ -23,7 +23,7 @@ use Rattle.sqlite_trees.specs.View.{IsShaped}
 use Rattle.sqlite_trees.specs.declared.store.Shape.TheVariants as shape
 use Rattle.wu_schema.specs.Fresh.{project_names}
 use Rattle.wu_schema.specs.Made.{AreFree}
-use Rattle.wu_tables.specs.Found.{HasQueueIn, IsFirstAgainst, StandsAgainst}
+use Rattle.wu_tables.specs.Found.{HasQueueIn, IsFirstMisfit, IsMisfitOf}
 use Rattle.wu_tables.specs.Upgrades.{IsFirstTaken}
 use Rattle.wu_tables.specs.declared.project.Misfit.{Misfit}
 use Rattle.wu_schema.specs.Tables.{IsClassedVersion}
@@ -262,12 +262,12 @@ module _ {S : Type 0} (g : Ghosts S) (a b : Held S) (world : World) (queued : Is
 
 -- ---- the tables that are not there
 
-pub lacks : (version : ℕ) (db : Database) (schema : Schema) → schema ≡ db.schema → (misfit : Misfit) → (version ≡ 1) ⊎ HasFirstTables db version → IsFirstAgainst version schema misfit → ((trees : ProjectTrees) → HasTables version schema trees → ⊥)
+pub lacks : (version : ℕ) (db : Database) (schema : Schema) → schema ≡ db.schema → (misfit : Misfit) → (version ≡ 1) ⊎ HasFirstTables db version → IsFirstMisfit version schema misfit → ((trees : ProjectTrees) → HasTables version schema trees → ⊥)
     → ((world : World) → Refines db world → IsClassedVersion version → IsClassedVersion world.version) → LacksTables db misfit
 lacks version db schema same misfit which told none needed = record {
   version = version;
   which = which;
-  told = subst (λ (s : Schema). IsFirstAgainst version s misfit) same told;
+  told = subst (λ (s : Schema). IsFirstMisfit version s misfit) same told;
   none = subst (λ (s : Schema). (trees : ProjectTrees) → HasTables version s trees → ⊥) same none;
   needed = needed;
 }
@@ -278,7 +278,7 @@ first_there version db misfit first lacks = record {
   lacks = lacks;
   room = λ missing. absurd (
       let there = (first.there.each the_table.Project tt).1.named in
-      let none = (subst (StandsAgainst lacks.version db.schema) missing lacks.told.wrong).1 in
+      let none = (subst (IsMisfitOf lacks.version db.schema) missing lacks.told.wrong).1 in
       cc);
 }
 

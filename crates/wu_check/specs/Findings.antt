@@ -78,7 +78,7 @@ pub record HasFirstTables (db : Database) (version : ℕ) : Type 0 where
 pub record LacksTables (db : Database) (misfit : Misfit) : Type 0 where
   pub version : ℕ
   pub which : (version ≡ 1) ⊎ HasFirstTables db version
-  pub told : tables.IsFirstAgainst version db.schema misfit
+  pub told : tables.IsFirstMisfit version db.schema misfit
   pub none : (trees : ProjectTrees) → HasTables version db.schema trees → ⊥
   pub needed : (world : World) → Refines db world → IsClassedVersion version → IsClassedVersion world.version
 

@@ -37,7 +37,7 @@ use Rattle.wu_cli.specs.Performing.{as_result, Performs}
 use Rattle.wu_cli.specs.Printing.{printed_accepted, printed_as, printed_by, printed_replies, printed_reply, printed_steps, printed_until, PrintsAction, PrintsSteps, shown_text}
 use Rattle.wu_cli.specs.Repeating.{commands_of_step, commands_of_steps, unrolled, world_behind}
 use Rattle.wu_cli.specs.Scripting.{PerformsEach, PerformsScript, PerformsSteps}
-use Rattle.wu_cli.specs.Trying.{accepted, EndsTried, is_refusal, PassesOver, PerformsAs, PerformsBy, PerformsRan, RanStep, growth, refusal_line, refusal_of, Stops, StopsAction}
+use Rattle.wu_cli.specs.Trying.{accepted_commands, EndsTried, is_refusal, PassesOver, PerformsAs, PerformsBy, PerformsRan, RanStep, growth, refusal_line, refusal_of, Stops, StopsAction}
 use Rattle.wu_cli.specs.Working.{line_outcome, script_outcome}
 use Rattle.wu_cli.proofs.ActionLemmas.{shown_present, world_both, world_of}
 use Rattle.wu_cli.proofs.ScriptLemmas.{each_clean, each_done, each_goes}
@@ -170,7 +170,7 @@ module _ {S W : Type 0} {store : Ghosts S} (contents : W → Option (List ℕ)) 
       → AppendsFront (contents out_old) (contents out_new) (printed_accepted world action)
   ended_prints (Commands commands) fault (run, runs, is) going clean world shows =
       let driven = runs.answers.3 going clean world shows in
-      front_prints commands (accepted world commands) run runs going clean world shows (accepted_front world commands runs.answers.0 run.acknowledged driven.answered)
+      front_prints commands (accepted_commands world commands) run runs going clean world shows (accepted_front world commands runs.answers.0 run.acknowledged driven.answered)
   ended_prints (Look view) fault sees going clean world shows =
       subst (λ o. AppendsFront (contents out_old) (contents out_new) (shown_text o (view_text world view))) shows.version (by_version (older_version old) refl)
     where

@@ -35,73 +35,73 @@ use Rattle.wu_arguments.specs.declared.script.Mode.TheVariants.{Once, Repeated, 
 use Rattle.wu_cli.specs.Performing.{as_result, commands_of_action, Performs}
 use Rattle.wu_cli.specs.Repeating.{commands_as, commands_by, commands_of_step}
 use Rattle.wu_cli.specs.Scripting.{so_far}
-use Rattle.wu_cli.specs.Trying.{accepted, Attempts, EndsTried, first_refusal, growth, if_accepted, is_refusal, PassesOver, PerformsAs, PerformsBy, PerformsRan, RanStep, refusal_of, refused_or, stopped_at, Stops, StopsAction, Tries}
+use Rattle.wu_cli.specs.Trying.{accepted_commands, Attempts, EndsTried, first_refusal, growth, if_accepted, is_refusal, PassesOver, PerformsAs, PerformsBy, PerformsRan, RanStep, refusal_of, refused_or, stopped_at, Stops, StopsAction, Tries}
 use Rattle.wu_cli.proofs.ActionLemmas.{one_clean, one_done, one_goes, one_over, seen_over, seen_shows, shown_present, world_of}
 
 -- ---- the commands that the machine accepts
 
 pub accepted_all : (world : World) (commands : List Command) (answers : List Answer) → AnswerAll world commands answers
-    → (accepted world commands ≡ commands) × (first_refusal world commands ≡ None)
+    → (accepted_commands world commands ≡ commands) × (first_refusal world commands ≡ None)
 accepted_all world [] answers all = (refl, refl)
 accepted_all world (command ∷ commands) [] all = absurd all
 accepted_all world (command ∷ commands) (answer ∷ answers) all =
     let next = step world (request_of command) in
     let rest = accepted_all next commands answers all.1 in (
-      ap (λ r. if_accepted r command (accepted next commands)) all.0 ∙ ap (λ cs. command ∷ cs) rest.0,
+      ap (λ r. if_accepted r command (accepted_commands next commands)) all.0 ∙ ap (λ cs. command ∷ cs) rest.0,
       ap (λ r. refused_or r (first_refusal next commands)) all.0 ∙ rest.1,
     )
 
 -- up to one that it refuses
 accepted_up_to : (world : World) (commands : List Command) (answers : List Answer) (k : ℕ) (last : Command) (fault : Fault) → AnswerAll world (take k commands) answers
     → slice_get commands k ≡ Some last → reply (world_after world commands k) (request_of last) ≡ Err fault
-    → (accepted world commands ≡ take k commands) × (first_refusal world commands ≡ Some fault)
+    → (accepted_commands world commands ≡ take k commands) × (first_refusal world commands ≡ Some fault)
 accepted_up_to world [] answers k last fault all there refused = absurd (cc)
 accepted_up_to world (command ∷ commands) answers zero last fault all there refused =
     let next = step world (request_of command) in
     let here : reply world (request_of command) ≡ Err fault = ap (λ c. reply world (request_of c)) (same_command command last there) ∙ refused in (
-      ap (λ r. if_accepted r command (accepted next commands)) here,
+      ap (λ r. if_accepted r command (accepted_commands next commands)) here,
       ap (λ r. refused_or r (first_refusal next commands)) here,
     )
 accepted_up_to world (command ∷ commands) [] (suc k) last fault all there refused = absurd all
 accepted_up_to world (command ∷ commands) (answer ∷ answers) (suc k) last fault all there refused =
     let next = step world (request_of command) in
     let rest = accepted_up_to next commands answers k last fault all.1 there refused in (
-      ap (λ r. if_accepted r command (accepted next commands)) all.0 ∙ ap (λ cs. command ∷ cs) rest.0,
+      ap (λ r. if_accepted r command (accepted_commands next commands)) all.0 ∙ ap (λ cs. command ∷ cs) rest.0,
       ap (λ r. refused_or r (first_refusal next commands)) all.0 ∙ rest.1,
     )
 
 -- those that were answered are among them
 pub accepted_front : (world : World) (commands : List Command) (answers : List Answer) (k : ℕ) → AnswerAll world (take k commands) answers
-    → take k (accepted world commands) ≡ take k commands
+    → take k (accepted_commands world commands) ≡ take k commands
 accepted_front world [] answers k all = refl
 accepted_front world (command ∷ commands) answers zero all = refl
 accepted_front world (command ∷ commands) [] (suc k) all = absurd all
 accepted_front world (command ∷ commands) (answer ∷ answers) (suc k) all =
     let next = step world (request_of command) in
-    ap (λ r. take (suc k) (if_accepted r command (accepted next commands))) all.0 ∙ ap (λ cs. command ∷ cs) (accepted_front next commands answers k all.1)
+    ap (λ r. take (suc k) (if_accepted r command (accepted_commands next commands))) all.0 ∙ ap (λ cs. command ∷ cs) (accepted_front next commands answers k all.1)
 
 accepted_within : (world : World) (commands : List Command) (answers : List Answer) (k : ℕ) → k ≤ length commands → AnswerAll world (take k commands) answers
-    → k ≤ length (accepted world commands)
+    → k ≤ length (accepted_commands world commands)
 accepted_within world [] answers k low all = low
 accepted_within world (command ∷ commands) answers zero low all = omega arith
 accepted_within world (command ∷ commands) [] (suc k) low all = absurd all
 accepted_within world (command ∷ commands) (answer ∷ answers) (suc k) low all =
     let next = step world (request_of command) in
     let rest = accepted_within next commands answers k (omega (arith, low)) all.1 in
-    subst (λ cs. suc k ≤ length cs) (sym (ap (λ r. if_accepted r command (accepted next commands)) all.0)) (omega (arith, rest))
+    subst (λ cs. suc k ≤ length cs) (sym (ap (λ r. if_accepted r command (accepted_commands next commands)) all.0)) (omega (arith, rest))
 
 -- and so is the next one, if it is accepted
 accepted_next : (world : World) (commands : List Command) (answers : List Answer) (k : ℕ) (last : Command) (answer : Reply) → AnswerAll world (take k commands) answers
-    → slice_get commands k ≡ Some last → reply (world_after world commands k) (request_of last) ≡ Ok answer → slice_get (accepted world commands) k ≡ Some last
+    → slice_get commands k ≡ Some last → reply (world_after world commands k) (request_of last) ≡ Ok answer → slice_get (accepted_commands world commands) k ≡ Some last
 accepted_next world [] answers k last answer all there is = absurd (cc)
 accepted_next world (command ∷ commands) answers zero last answer all there is =
     let next = step world (request_of command) in
     let here : reply world (request_of command) ≡ Ok answer = ap (λ c. reply world (request_of c)) (same_command command last there) ∙ is in
-    ap (λ r. slice_get (if_accepted r command (accepted next commands)) zero) here ∙ there
+    ap (λ r. slice_get (if_accepted r command (accepted_commands next commands)) zero) here ∙ there
 accepted_next world (command ∷ commands) [] (suc k) last answer all there is = absurd all
 accepted_next world (command ∷ commands) (first ∷ answers) (suc k) last answer all there is =
     let next = step world (request_of command) in
-    ap (λ r. slice_get (if_accepted r command (accepted next commands)) (suc k)) all.0 ∙ accepted_next next commands answers k last answer all.1 there is
+    ap (λ r. slice_get (if_accepted r command (accepted_commands next commands)) (suc k)) all.0 ∙ accepted_next next commands answers k last answer all.1 there is
 
 -- ---- a session that ended within one of them
 
@@ -120,17 +120,17 @@ cut_refused s world request fault refused ended = record {
 }
 
 module _ (world : World) (commands : List Command) (answers : List Answer) (run : Run) (is_cut : Bool) (new : State) (drives : Drives world commands answers run is_cut new) where
-  front : take run.acknowledged (accepted world commands) ≡ take run.acknowledged commands
+  front : take run.acknowledged (accepted_commands world commands) ≡ take run.acknowledged commands
   front = accepted_front world commands answers run.acknowledged drives.answered
 
   -- the world after those that were done is one, of all and of those that the machine accepts
-  pub after_accepted : world_after world (accepted world commands) run.acknowledged ≡ world_after world commands run.acknowledged
+  pub after_accepted : world_after world (accepted_commands world commands) run.acknowledged ≡ world_after world commands run.acknowledged
   after_accepted = ap (λ cs. world_of world cs) front
 
-  within : run.acknowledged ≤ length (accepted world commands)
+  within : run.acknowledged ≤ length (accepted_commands world commands)
   within = accepted_within world commands answers run.acknowledged drives.within drives.answered
 
-  uncut : GoesOn new (world_after world commands run.acknowledged) → Drives world (accepted world commands) answers (so_far run.acknowledged) false new
+  uncut : GoesOn new (world_after world commands run.acknowledged) → Drives world (accepted_commands world commands) answers (so_far run.acknowledged) false new
   uncut goes = record {
     within = within;
     answered = subst (λ cs. AnswerAll world cs answers) (sym front) drives.answered;
@@ -143,7 +143,7 @@ module _ (world : World) (commands : List Command) (answers : List Answer) (run 
 
   cut_in : (last : Command) → is_cut ≡ true → slice_get commands run.acknowledged ≡ Some last → HasEnded new (world_after world commands run.acknowledged) (request_of last)
       → (answer : Reply) → reply (world_after world commands run.acknowledged) (request_of last) ≡ Ok answer
-      → Drives world (accepted world commands) answers (so_far run.acknowledged) true new
+      → Drives world (accepted_commands world commands) answers (so_far run.acknowledged) true new
   cut_in last cut there ended answer is =
       let next = accepted_next world commands answers run.acknowledged last answer drives.answered there is in
       record {
@@ -160,12 +160,12 @@ module _ (world : World) (commands : List Command) (answers : List Answer) (run 
 
   by_reply : (last : Command) → is_cut ≡ true → slice_get commands run.acknowledged ≡ Some last → HasEnded new (world_after world commands run.acknowledged) (request_of last)
       → (told : Result Reply Fault) → reply (world_after world commands run.acknowledged) (request_of last) ≡ told
-      → (still_cut : Bool) × Drives world (accepted world commands) answers (so_far run.acknowledged) still_cut new
+      → (still_cut : Bool) × Drives world (accepted_commands world commands) answers (so_far run.acknowledged) still_cut new
   by_reply last cut there ended (Ok answer) is = (true, cut_in last cut there ended answer is)
   by_reply last cut there ended (Err fault) is = (false, uncut (cut_refused new (world_after world commands run.acknowledged) (request_of last) fault is ended))
 
   -- of the commands that the machine accepts as many were done
-  pub drives_accepted : (still_cut : Bool) × Drives world (accepted world commands) answers (so_far run.acknowledged) still_cut new
+  pub drives_accepted : (still_cut : Bool) × Drives world (accepted_commands world commands) answers (so_far run.acknowledged) still_cut new
   drives_accepted = elim (cases_Bool is_cut) [
     | inl cut ↦
         let at = drives.ended cut in
@@ -215,7 +215,7 @@ module _ {S W : Type 0} {store : Ghosts S} (contents : W → Option (List ℕ)) 
   -- the machine refuses the commands, and those before that are done
   pub refused_at : (commands : List Command) (fault : Fault) (run : Run) → RunsList contents old new out_old out_new commands run → run.end ≡ Some fault → is_refusal fault ≡ true
       → IsSessionOpen old → HasCleanDisk (state_of new) → (world : World) → ShowsProject old world
-      → (accepted world commands ≡ take run.acknowledged commands) × (first_refusal world commands ≡ Some fault)
+      → (accepted_commands world commands ≡ take run.acknowledged commands) × (first_refusal world commands ≡ Some fault)
   refused_at commands fault run runs is refused going clean world shows =
       let driven = runs.answers.3 going clean world shows in
       elim (driven.end fault is) [

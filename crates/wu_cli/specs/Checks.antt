@@ -16,7 +16,7 @@ use Rattle.wu_schema.specs.declared.table.ProjectTable.{ProjectTable}
 use Rattle.wu_loader.specs.declared.finding.WrongRow.{WrongRow}
 use Rattle.wu_loader.specs.declared.totals.OtherSums.{OtherSums}
 use Rattle.wu_report.specs.Texts.{line_end}
-use Rattle.wu_schema.specs.ProjectTables.{name_of}
+use Rattle.wu_schema.specs.ProjectTables.{table_name}
 use Rattle.wu_schema.specs.declared.table.ProjectTable.TheVariants.{Project}
 use Rattle.wu_tables.specs.declared.project.Misfit.{Misfit}
 use Rattle.wu_tables.specs.declared.project.Misfit.TheVariants as misfit
@@ -34,7 +34,7 @@ sound_line counts =
 
 -- The line of a row that is that of no value, or is missing: its table, and its place there.
 abbrev pub row_line : WrongRow → List ℕ
-row_line wrong = name_of wrong.table ++ (codes " row " ++ (decimal wrong.place ++ (codes " is missing, or none of a project" ++ line_end)))
+row_line wrong = table_name wrong.table ++ (codes " row " ++ (decimal wrong.place ++ (codes " is missing, or none of a project" ++ line_end)))
 
 -- A table and the key of one of its rows, as printed.
 abbrev pub key_text : Key → List ℕ
@@ -51,8 +51,8 @@ missing_text Project = codes " is missing: there is no project yet"
 missing_text _ = codes " is missing"
 
 abbrev pub misfit_line : Misfit → List ℕ
-misfit_line (misfit.Missing table) = codes "table " ++ name_of table ++ missing_text table ++ line_end
-misfit_line (misfit.Altered table) = codes "table " ++ name_of table ++ codes " is not that of a project" ++ line_end
+misfit_line (misfit.Missing table) = codes "table " ++ table_name table ++ missing_text table ++ line_end
+misfit_line (misfit.Altered table) = codes "table " ++ table_name table ++ codes " is not that of a project" ++ line_end
 misfit_line misfit.HostNames = codes "table host has an index that does not compare names by their bytes" ++ line_end
 
 -- The line of a name that something has and that a new project gives, where there is no table `project`.

@@ -35,13 +35,13 @@ abbrev pub wanted_of : OutputFiles → List Archived → List Archived
 wanted_of asked rows = filter (is_wanted asked.name) rows
 
 -- What stands after the name of a workunit in that of its output's file.
-abbrev pub ending_of : List ℕ → List ℕ
-ending_of name = if is_reserved name then codes "+" else []
+abbrev pub reserved_ending : List ℕ → List ℕ
+reserved_ending name = if is_reserved name then codes "+" else []
 
 -- The path of the file of an output: in the folder, and named for its workunit. A `+` stands after a name that no file of
 -- an output has.
 abbrev pub output_path : List ℕ → List ℕ → List ℕ
-output_path folder name = folder ++ (codes "/" ++ (name ++ ending_of name))
+output_path folder name = folder ++ (codes "/" ++ (name ++ reserved_ending name))
 
 -- How many outputs have their files.
 abbrev pub total : KeptCounts → ℕ

@@ -25,7 +25,7 @@ use Rattle.wu_arguments.specs.declared.step.LineFault.{LineFault}
 use Rattle.wu_arguments.specs.declared.step.Step.{Step}
 use Rattle.wu_cli.specs.Endings.{fault_line}
 use Rattle.wu_cli.specs.Repeating.{RanAs, unrolled, world_behind}
-use Rattle.wu_cli.specs.Trying.{accepted, refusal_line, refusal_of, RanStep}
+use Rattle.wu_cli.specs.Trying.{accepted_commands, refusal_line, refusal_of, RanStep}
 use Rattle.wu_cli.specs.Working.{line_outcome, script_outcome, WorkRanAs}
 use Rattle.wu_cli.specs.declared.trouble.Trouble.{Trouble}
 use Rattle.wu_cli.specs.declared.work.Work.{Work}
@@ -57,7 +57,7 @@ shown_text (Some version) text = []
 
 -- What an action prints before its refusal, if it is refused: the answers to the commands before that.
 abbrev pub printed_accepted : World → Action → List ℕ
-printed_accepted world (Commands commands) = printed_replies world (accepted world commands)
+printed_accepted world (Commands commands) = printed_replies world (accepted_commands world commands)
 printed_accepted world (Look view) = shown_text (older_than_present world.version) (view_text world view)
 printed_accepted world (Refused fault) = []
 

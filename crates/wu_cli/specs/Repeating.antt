@@ -12,7 +12,7 @@ use Rattle.wu_arguments.specs.declared.script.Mode.{Mode}
 use Rattle.wu_arguments.specs.declared.script.Mode.TheVariants.{Once, Repeated, Tried}
 use Rattle.wu_arguments.specs.declared.step.Step.{Step}
 use Rattle.wu_cli.specs.Performing.{commands_of_action}
-use Rattle.wu_cli.specs.Trying.{accepted, RanStep, step_as}
+use Rattle.wu_cli.specs.Trying.{accepted_commands, RanStep, step_as}
 use Rattle.wu_cli.specs.declared.repeating.TheConstants.{MOST_ROUNDS}
 
 -- ---- the commands of a script
@@ -31,7 +31,7 @@ RanAs (step ∷ steps) ran =
 abbrev pub commands_by : Mode → World → Action → List Command
 commands_by Once world action = commands_of_action action
 commands_by Repeated world action = commands_of_action action
-commands_by Tried world action = accepted world (commands_of_action action)
+commands_by Tried world action = accepted_commands world (commands_of_action action)
 
 -- Likewise of one that the store may have stopped.
 abbrev pub commands_as : Option ℕ → Mode → World → Action → List Command

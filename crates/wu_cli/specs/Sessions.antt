@@ -18,7 +18,7 @@ use Rattle.wu_machine.specs.declared.command.Answer.{Answer}
 use Rattle.wu_machine.specs.declared.command.Command.{Command}
 use Rattle.wu_passes.specs.declared.project.Project.{Project}
 use Rattle.wu_passes.specs.Adopting.{RefusesAdoption}
-use Rattle.wu_passes.specs.Projects.{connection_of, has_ended, is_new, IsOver, IsSessionOpen, older_version, state_of, BeginsSession}
+use Rattle.wu_passes.specs.Projects.{connection_of, has_ended, is_new_project, IsOver, IsSessionOpen, older_version, state_of, BeginsSession}
 use Rattle.wu_report.specs.Texts.{line_end}
 use Rattle.wu_report.specs.Writing.{WritesTo}
 use Rattle.wu_arguments.specs.Statuses.{fault_status, refusal_status}
@@ -191,7 +191,7 @@ module _ {S W : Type 0} {store : Ghosts S} (contents : W → Option (List ℕ)) 
   pub record ServesProject (old new : Project S store) (out_old out_new : W) (in_old in_new : Option (List ℕ)) (status : ℕ) : Type 0 where
     pub told : Result (Unit {0}) Fault
     pub out_ready : W
-    pub wrote : WritesTo contents out_old out_ready (ready_line (older_version old) (is_new old)) told
+    pub wrote : WritesTo contents out_old out_ready (ready_line (older_version old) (is_new_project old)) told
     pub serves : ServesIf told old new out_ready out_new in_old in_new status
 
 module _ {S W : Type 0} (g : StoreGhosts S) (contents : W → Option (List ℕ)) (gives : List ℕ → ℕ → Option (List ℕ) → Type 0) (exports : SaysOfExport) (db : List ℕ) (conn again : Held S) (out_old out_new : W) (in_old in_new : Option (List ℕ)) where

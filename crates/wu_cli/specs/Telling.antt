@@ -25,7 +25,7 @@ use Rattle.wu_cli.specs.Endings.{fault_line}
 use Rattle.wu_cli.specs.Performing.{commands_of_action}
 use Rattle.wu_cli.specs.Printing.{printed_accepted, printed_steps, printed_until}
 use Rattle.wu_cli.specs.Repeating.{commands_of_steps, RanAs, unrolled, world_behind_steps}
-use Rattle.wu_cli.specs.Trying.{accepted, refusal_line, refusal_of, RanStep}
+use Rattle.wu_cli.specs.Trying.{accepted_commands, refusal_line, refusal_of, RanStep}
 use Rattle.wu_cli.specs.Scripting.{so_far}
 
 -- What an action printed that ended with a fault. Of commands, the texts of the answers to those that were done, the
@@ -52,7 +52,7 @@ TellsBy Once before after world action count fault = TellsAction before after wo
 TellsBy Repeated before after world action count fault = TellsAction before after world action count fault
 TellsBy Tried before after world action count fault =
     TellsAction before after world action count fault
-    ⊎ CutsRefusal before after (accepted world (commands_of_action action)) (printed_accepted world action) (refusal_line (refusal_of world action)) count fault
+    ⊎ CutsRefusal before after (accepted_commands world (commands_of_action action)) (printed_accepted world action) (refusal_line (refusal_of world action)) count fault
 
 -- Likewise of one that the store may have stopped: then the output failed at the line of that refusal.
 abbrev pub TellsAs : Option ℕ → Mode → Option (List ℕ) → Option (List ℕ) → World → Action → ℕ → Fault → Type 0

@@ -41,10 +41,10 @@ if_accepted (Ok answer) command more = command ∷ more
 if_accepted (Err fault) command more = []
 
 -- The commands that the machine accepts, one after another, up to its first refusal.
-abbrev pub accepted : World → List Command → List Command
-accepted world [] = []
-accepted world (command ∷ commands) =
-    if_accepted (reply world (request_of command)) command (accepted (step world (request_of command)) commands)
+abbrev pub accepted_commands : World → List Command → List Command
+accepted_commands world [] = []
+accepted_commands world (command ∷ commands) =
+    if_accepted (reply world (request_of command)) command (accepted_commands (step world (request_of command)) commands)
 
 -- The refusal of a command, or else that of the commands after it.
 abbrev pub refused_or : Result Reply Fault → Option Fault → Option Fault

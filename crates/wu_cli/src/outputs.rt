@@ -2,7 +2,7 @@
 
 ghost use Rattle.std.specs.Prelude.{◌≡◌, IfOk, IfSome, string_bytes, suc};
 ghost use Rattle.wu_report.specs.Writing.{WritesTo};
-ghost use Rattle.wu_cli.specs.Outputs.{ending_of, HasFile, IsLost, is_wanted, KeepsOutputs, KeepsIfSound, lost_line, output_path, total, trouble_of_walk};
+ghost use Rattle.wu_cli.specs.Outputs.{reserved_ending, HasFile, IsLost, is_wanted, KeepsOutputs, KeepsIfSound, lost_line, output_path, total, trouble_of_walk};
 
 use crate::backup::{Unmade, count_sound};
 use crate::log_names::is_reserved;
@@ -96,8 +96,8 @@ fn lost_of(alloc: Global, row: &Archived, why: Unmade) -> LostOutput
 
 /// Returns what stands after a workunit's name in that of its output's file: `+`, which no workunit has in its name,
 /// where no file of an output has the workunit's name, and else nothing.
-fn ending_of(name: &str) -> &'static str
-    ensures { result.now ≡ ending_of name.now }
+fn reserved_ending(name: &str) -> &'static str
+    ensures { result.now ≡ reserved_ending name.now }
 {
     if is_reserved(name) { "+" } else { "" }
 }
@@ -109,7 +109,7 @@ fn output_path(alloc: Global, folder: &str, name: &Name) -> Result<String, Alloc
     let mut path = String::from_str(alloc, folder)?;
     path.push_str("/")?;
     path.push_str(name.as_str())?;
-    path.push_str(ending_of(name.as_str()))?;
+    path.push_str(reserved_ending(name.as_str()))?;
     Ok(path)
 }
 

@@ -12,7 +12,7 @@ use Rattle.wu_core.specs.Classes.{AreInOrder}
 use Rattle.wu_core.specs.Storable.{IsStorable}
 use Rattle.wu_core.specs.declared.workunit.HostClass.{HostClass}
 use Rattle.wu_store.proofs.SameWorld.{read_number}
-use Rattle.wu_loader.specs.Classing.{by_host, numbers, numbers_classed, AreClassedBy, AreOfOthers, AreRising}
+use Rattle.wu_loader.specs.Classing.{by_classed_host, numbers, numbers_classed, AreClassedBy, AreOfOthers, AreRising}
 use Rattle.wu_loader.specs.Rows.{classed_of, classed_row, IsStoredClass}
 use Rattle.wu_loader.specs.Whole.{DiffersAt, IsNoRow}
 use Rattle.wu_loader.specs.Wrongs.{keys}
@@ -24,17 +24,17 @@ use Rattle.wu_loader.specs.declared.world.WithClasses.{WithClasses}
 use Rattle.wu_loader.proofs.WholeLemmas.{differs_mapped, got_behind, no_rows, rows_plain}
 use Rattle.wu_loader.proofs.OrderLemmas.{ascending, in_pairs, named_are, one_list, pairs_rise}
 
-pub by_host_total : IsTotalOrder by_host
+pub by_host_total : IsTotalOrder by_classed_host
 by_host_total = on_total (λ (it : HostClass). it.host) nat_list_cmp_total
 
 pub rising_in_order : (classes : List HostClass) → AreRising classes → AreInOrder classes
-rising_in_order classes up = in_pairs by_host classes (ascending by_host by_host_total classes up)
+rising_in_order classes up = in_pairs by_classed_host classes (ascending by_classed_host by_host_total classes up)
 
 -- sorted ones that have the rows of ones in order are those
-pub rising_must : (classes sorted : List HostClass) → AreInOrder classes → IsSorted by_host sorted → IsPermutation (map class_cells classes) (map class_cells sorted) → AreRising sorted
+pub rising_must : (classes sorted : List HostClass) → AreInOrder classes → IsSorted by_classed_host sorted → IsPermutation (map class_cells classes) (map class_cells sorted) → AreRising sorted
 rising_must classes sorted in_order up same =
-    let rises : AreRising classes = pairs_rise by_host classes in_order in
-    let is = named_are (λ (it : HostClass). it.host) class_cells (λ it. refl) same_class classes sorted (ascending by_host by_host_total classes rises) up same in
+    let rises : AreRising classes = pairs_rise by_classed_host classes in_order in
+    let is = named_are (λ (it : HostClass). it.host) class_cells (λ it. refl) same_class classes sorted (ascending by_classed_host by_host_total classes rises) up same in
     subst AreRising (sym is) rises
 
 -- ---- the classes of workunits

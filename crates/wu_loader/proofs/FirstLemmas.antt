@@ -1,5 +1,5 @@
 -- The first wrong row, in the written order of the tables.
-use Rattle.wu_schema.proofs.Words.{List, None, Option, Row, Some, [], ap, arith, inl, inr, refl, subst, sym, ℕ, ◌+◌, ◌<◌, ◌∙◌, ◌∷◌, ◌≡◌}
+use Rattle.wu_schema.proofs.Words.{List, None, Option, Row, Some, ap, arith, inl, inr, refl, subst, sym, ℕ, ◌+◌, ◌<◌, ◌≡◌}
 use Rattle.std.proofs.Common.{below_more}
 use Rattle.wu_schema.specs.ProjectTables.{rank}
 use Rattle.wu_schema.proofs.TableOrder.{one_rank}

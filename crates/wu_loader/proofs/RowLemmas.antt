@@ -1,5 +1,5 @@
 -- How rows read as values.
-use Rattle.wu_schema.proofs.Words.{Err, Fault, Grant, Import, Instance, IsErrAnd, NotAProject, Ok, Result, Row, Value, [], ap, column, drop, import_cells, inl, inr, instance_row, length, map, number, refl, subst, suc, sym, ℕ, ⊤, ◌++◌, ◌∙◌, ◌∷◌, ◌≡◌}
+use Rattle.wu_schema.proofs.Words.{Err, Fault, Grant, Import, Instance, IsErrAnd, NotAProject, Ok, Result, Row, Value, [], ap, column, drop, import_cells, inl, inr, instance_row, length, map, number, refl, subst, suc, sym, ℕ, ⊤, ◌∙◌, ◌∷◌, ◌≡◌}
 use Rattle.std.specs.List.{range_with_len}
 use Rattle.wu_core.specs.World.{MayBeKept}
 use Rattle.sqlite.specs.declared.types.Value.TheVariants.{Text, Blob}

@@ -1,9 +1,10 @@
 -- The questions about whole tables: each text, what it asks for, and what its answer shows of any rows.
-use Rattle.wu_schema.proofs.Words.{Answers, Database, Error, FailsToQuery, Fault, Ghosts, HasTables, Held, IfErr, IsFailure, ProjectTrees, Result, Vec, fault_of, false, length, state, HasTable, Int, IsPermutation, IsTable, List, None, Row, Shown, State, Table, Name, [], ap, arith, eval_all, everything, lit, map, negsuc, refl, subst, sym, ℕ, ◌∙◌, ◌∷◌, ◌≡◌}
+use Rattle.wu_schema.proofs.Words.{Answers, Column, Database, Error, FailsToQuery, Fault, Ghosts, HasTables, Held, IfErr, IsFailure, ProjectTrees, Result, Vec, fault_of, false, length, state, HasTable, Int, IsPermutation, IsTable, List, None, Row, Shown, State, Table, Name, [], ap, arith, eval_all, everything, lit, map, negsuc, refl, subst, sym, ℕ, ◌∙◌, ◌∷◌, ◌≡◌}
+use Rattle.std.specs.List.{cons_option, enumerate_from}
 use Rattle.wu_schema.proofs.AnswerLemmas.{answers_are, shown_answers}
 use Rattle.wu_schema.specs.declared.table.ProjectTable.{ProjectTable}
 use Rattle.wu_schema.specs.declared.table.ProjectTable.TheVariants as the_table
-use Rattle.wu_schema.specs.ProjectTables.{IsTableOf, name_of, table_at}
+use Rattle.wu_schema.specs.ProjectTables.{IsTableOf, table_name, table_at}
 use Rattle.wu_schema.proofs.QueryLemmas.{alone, plain_query}
 use Rattle.wu_schema.proofs.ReadLemmas.{if_err, if_ok}
 use Rattle.wu_schema.proofs.RowLemmas.{no_test}
@@ -41,25 +42,26 @@ module _ (title : Name) (table : Table) (q : Asked) (fits : Fits title table q) 
 
 -- ---- what such a question does, and what it says
 
-module _ (version : ℕ) (p : ProjectTable) (in_p : IsTableOf p version) (q : Asked) (fits : (tree : ℕ) → Fits (name_of p) (table_at p tree) q) (none : q.parameters ≡ []) where
-  selects : IsSelect q.text
-  selects = record { parsed = parsed_of (name_of p) (table_at p 0) q; select = select_of (name_of p) (table_at p 0) q; read = (fits 0).read; is = refl }
+-- such a question is a SELECT
+pub selects : (p : ProjectTable) (q : Asked) → ((tree : ℕ) → Fits (table_name p) (table_at p tree) q) → IsSelect q.text
+selects p q fits = record { parsed = parsed_of (table_name p) (table_at p 0) q; select = select_of (table_name p) (table_at p 0) q; read = (fits 0).read; is = refl }
 
+module _ (version : ℕ) (p : ProjectTable) (in_p : IsTableOf p version) (q : Asked) (fits : (tree : ℕ) → Fits (table_name p) (table_at p tree) q) (none : q.parameters ≡ []) where
   module _ {S : Type 0} (g : Ghosts S) (old new : Held S) (given : Row) (same : given ≡ []) where
     abbrev before : State
     before = state g old
 
-    told : (trees : ProjectTrees) → HasTables version before.now.schema trees → old.step_limit ≡ None → (fault : Fault) (error : Error) → fault ≡ fault_of error → FailsToQuery q.text given before (state g new) error → IsFailure fault
+    pub told : (trees : ProjectTrees) → HasTables version before.now.schema trees → old.step_limit ≡ None → (fault : Fault) (error : Error) → fault ≡ fault_of error → FailsToQuery q.text given before (state g new) error → IsFailure fault
     told trees has unlimited fault error is failed =
         let there = has.each p in_p in
-        subst IsFailure (sym is) (asked_told (name_of p) there.0 _ q (fits _) before (state g new) there.1 [] error (sym (ap (λ ps. length ps) none)) (fits _).typed unlimited (subst (λ ps. FailsToQuery q.text ps before (state g new) error) same failed))
+        subst IsFailure (sym is) (asked_told (table_name p) there.0 _ q (fits _) before (state g new) there.1 [] error (sym (ap (λ ps. length ps) none)) (fits _).typed unlimited (subst (λ ps. FailsToQuery q.text ps before (state g new) error) same failed))
 
     pub looks_whole : {A : Type 0} (Is : Database → ProjectTrees → List Row → Type 0) → ((trees : ProjectTrees) → HasArranged version before.now trees → (rows : List Row) → Shown q.text [] before (state g new) rows → Is before.now trees rows)
         → (r : Result (Vec Row A) Fault) → (IsSelect q.text → Asks g old new r) → (IsSelect q.text → ServesUnlessFailed g new r) → ShowsAll g old new r q.text given → FailsAll g old new r q.text given → IfErr r IsStoreFault
         → LooksAtTables version g old new r (λ db trees rows. Is db trees rows.items)
     looks_whole Is says r asks opens shows fails store = record {
-      asks = asks selects;
-      opens = opens selects;
+      asks = asks (selects p q fits);
+      opens = opens (selects p q fits);
       says = λ clean trees has. if_ok r _ _ (λ rows h. says trees has rows.items (subst (λ ps. Shown q.text ps before (state g new) rows.items) same h)) (shows clean);
       fault = store;
       answered = λ clean trees has unlimited. if_err r _ _ (λ fault h. told trees has unlimited fault h.0 h.1 h.2) (fails clean);
@@ -69,17 +71,9 @@ module _ (version : ℕ) (p : ProjectTable) (in_p : IsTableOf p version) (q : As
 
 -- all columns, in order of the first if that is the rowid
 abbrev pub table_asked : ProjectTable → Asked
-table_asked the_table.Project = whole_table (question the_table.Project) (0 ∷ 1 ∷ 2 ∷ []) (0 ∷ [])
-table_asked the_table.Workunit = whole_table (question the_table.Workunit) (0 ∷ 1 ∷ 2 ∷ 3 ∷ 4 ∷ 5 ∷ 6 ∷ 7 ∷ 8 ∷ 9 ∷ 10 ∷ 11 ∷ 12 ∷ 13 ∷ 14 ∷ []) (0 ∷ [])
-table_asked the_table.Result = whole_table (question the_table.Result) (0 ∷ 1 ∷ 2 ∷ 3 ∷ 4 ∷ 5 ∷ 6 ∷ 7 ∷ 8 ∷ 9 ∷ 10 ∷ []) []
-table_asked the_table.Grant = whole_table (question the_table.Grant) (0 ∷ 1 ∷ 2 ∷ 3 ∷ 4 ∷ []) (0 ∷ [])
-table_asked the_table.Host = whole_table (question the_table.Host) (0 ∷ 1 ∷ 2 ∷ []) []
-table_asked the_table.Archived = whole_table (question the_table.Archived) (0 ∷ 1 ∷ 2 ∷ 3 ∷ 4 ∷ 5 ∷ 6 ∷ []) (0 ∷ [])
-table_asked the_table.Import = whole_table (question the_table.Import) (0 ∷ 1 ∷ 2 ∷ 3 ∷ 4 ∷ 5 ∷ []) []
-table_asked the_table.HostClass = whole_table (question the_table.HostClass) (0 ∷ 1 ∷ []) []
-table_asked the_table.WorkunitClass = whole_table (question the_table.WorkunitClass) (0 ∷ 1 ∷ []) (0 ∷ [])
+table_asked t = whole_table (question t) (map (λ (p : ℕ × Column). p.0) (enumerate_from 0 (table_at t 0).columns)) (cons_option (table_at t 0).key [])
 
-pub table_fits : (t : ProjectTable) (tree : ℕ) → Fits (name_of t) (table_at t tree) (table_asked t)
+pub table_fits : (t : ProjectTable) (tree : ℕ) → Fits (table_name t) (table_at t tree) (table_asked t)
 unfolding everything
 table_fits the_table.Project tree = record { shown = refl; tests = refl; strict = refl; order = refl; height = (0, tt); few = omega arith; limit = λ schema. refl; read = refl; typed = refl }
 table_fits the_table.Workunit tree = record { shown = refl; tests = refl; strict = refl; order = refl; height = (0, tt); few = omega arith; limit = λ schema. refl; read = refl; typed = refl }

@@ -15,7 +15,7 @@ use Rattle.wu_store.proofs.EqualLemmas.{number_equal, text_equal}
 use Rattle.wu_store.proofs.OnceLemmas.{has_permuted, key_once, kind_in, one_passes}
 use Rattle.wu_loader.specs.Asked.{HasArranged}
 use Rattle.wu_loader.specs.Dealing.{placed_of}
-use Rattle.wu_loader.specs.Rows.{archived_row, classed_of, classed_row, grant_row, placed_row, project_row}
+use Rattle.wu_loader.specs.Rows.{archived_row_at, classed_of, classed_row, grant_row, placed_row, project_row_of}
 use Rattle.wu_loader.specs.Shown.{behind_key, keyed, unkeyed, AreArranged, AreWhole, IsArranged, ShowsTables, ShowsClasses, ShowsPlain}
 use Rattle.wu_loader.specs.Worlds.{project_of, AreAnyClassRowsOf, AreClassRowsOf, ArePlainRowsOf, AreRowsOf}
 use Rattle.wu_loader.specs.declared.tables.ClassRows.{ClassRows}
@@ -204,7 +204,7 @@ module _ (version : ℕ) (db : Database) (trees : ProjectTrees) (rows : PlainRow
   -- the tables are what the world holds
   pub rows_stand : AreWhole 15 (db.trees (trees the_table.Workunit)) → (classes : Option ClassRows) → MatchOption classes (¬ IsClassedVersion version) (λ found. IsClassedVersion version × ShowsClasses db.trees trees found) → AreAnyClassRowsOf classes world → AreInOrder world.classes → world.version ≡ version → HasRows db.trees trees world
   rows_stand whole classes shows same in_order is = record {
-    project = stands_keyed db sound (project_at (trees the_table.Project)) (there (has.tables.each the_table.Project tt)) _ _ 2 refl refl refl (λ row. refl) project_row (project_of world ∷ []) _ shown.project are.project (λ p. number_some p.next_number);
+    project = stands_keyed db sound (project_at (trees the_table.Project)) (there (has.tables.each the_table.Project tt)) _ _ 2 refl refl refl (λ row. refl) project_row_of (project_of world ∷ []) _ shown.project are.project (λ p. number_some p.next_number);
     workunits = record { shaped = (has.arranged the_table.Workunit tt); same = workunits_stand whole };
     instances = record { shaped = (has.arranged the_table.Result tt); same = instances_stand };
     grants = record {
@@ -214,7 +214,7 @@ module _ (version : ℕ) (db : Database) (trees : ProjectTrees) (rows : PlainRow
     hosts = record { shaped = (has.arranged the_table.Host tt); same = hosts_stand };
     archived = record {
       shaped = (has.arranged the_table.Archived tt);
-      same = stands_keyed db sound (archived_at (trees the_table.Archived)) (there (has.tables.each the_table.Archived tt)) _ _ 6 refl refl refl (λ row. refl) (λ (p : ℕ × Archived). archived_row p.0 p.1) (enumerate_from 1 world.archived) _ shown.archived are.archived (λ p. number_some p.1.done_at);
+      same = stands_keyed db sound (archived_at (trees the_table.Archived)) (there (has.tables.each the_table.Archived tt)) _ _ 6 refl refl refl (λ row. refl) (λ (p : ℕ × Archived). archived_row_at p.0 p.1) (enumerate_from 1 world.archived) _ shown.archived are.archived (λ p. number_some p.1.done_at);
     };
     imports = record { shaped = (has.arranged the_table.Import tt); same = imports_stand };
     imported_once = imports_once db (trees the_table.Import) sound (there (has.tables.each the_table.Import tt)) (has.arranged the_table.Import tt) world.imports imports_stand;

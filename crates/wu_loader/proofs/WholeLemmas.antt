@@ -1,17 +1,17 @@
 -- All rows of a table as values.
-use Rattle.wu_schema.proofs.Words.{IfErr, IsErrAnd, Result, Contains-permutation, Err, Has, IsPermutation, IsPermutation-map, IsPermutation-sym, IsSorted, None, Option, all_has, contains_had, has_contained, has_mapped, List, NotAProject, Ok, Row, Some, [], ap, arith, enumerate_from, inl, inr, length, map, refl, slice_get, subst, suc, sym, take, ℕ, zero, ◌++◌, ◌+◌, ◌-◌, ◌<◌, ◌∙◌, ◌∷◌, ◌≡◌, ◌≢◌, ◌≤◌}
-use Rattle.std.specs.Prelude.{All, drop, slice_index_or}
+use Rattle.wu_schema.proofs.Words.{IfErr, IsErrAnd, Result, Contains-permutation, Err, Has, IsPermutation, IsPermutation-map, IsPermutation-sym, IsSorted, None, Option, all_has, contains_had, has_contained, has_mapped, List, Ok, Row, Some, [], ap, arith, enumerate_from, inl, inr, length, map, refl, slice_get, subst, suc, sym, take, ℕ, zero, ◌++◌, ◌+◌, ◌-◌, ◌<◌, ◌∙◌, ◌∷◌, ◌≡◌, ◌≢◌, ◌≤◌}
+use Rattle.std.specs.Prelude.{All}
 use Rattle.std.specs.Option.{option_map}
 use Rattle.std.specs.declared.cmp.Ordering.{Ordering}
-use Rattle.std.proofs.Common.{append-nil, append_assoc}
+use Rattle.std.proofs.Common.{append-nil}
 use Rattle.std.proofs.lemmas.List.{take-map, take_at}
 use Rattle.std.proofs.lemmas.Option.{slice_get-map}
 use Rattle.std.proofs.lemmas.List.Elements.{recursion_from_All}
 use Rattle.std.proofs.lemmas.List.Sorted.{All-permutation}
-use Rattle.wu_loader.specs.Rows.{project_row}
-use Rattle.wu_loader.specs.Wrongs.{IsNoProject, LacksProject}
+use Rattle.wu_loader.specs.Rows.{project_row_of}
+use Rattle.wu_loader.specs.Wrongs.{IsNoProject, LacksProjectRow}
 use Rattle.wu_loader.specs.declared.rows.ProjectRow.{ProjectRow}
-use Rattle.wu_loader.specs.Whole.{rows_of, AreOfValues, AreSorted, DiffersAt, IsIn, IsNoRow, StartsWithNoRow, UnlessMemory}
+use Rattle.wu_loader.specs.Whole.{rows_of, AreSorted, DiffersAt, IsIn, IsNoRow, StartsWithNoRow, UnlessMemory}
 use Rattle.wu_loader.specs.declared.finding.NoWorld.{NoWorld}
 use Rattle.wu_loader.specs.declared.finding.NoWorld.TheVariants.{Memory, Wrong as told}
 use Rattle.wu_schema.specs.declared.table.ProjectTable.{ProjectTable}
@@ -29,13 +29,12 @@ module _ {T : Type 0} (cells : ℕ → T → Row) where
   later n [] x = let e : n ≡ n + 0 = omega arith in ap (λ k. cells k x ∷ []) e
   later n (y ∷ xs) x = let e : n + 1 + length xs ≡ n + suc (length xs) = omega arith in ap (λ rows. cells n y ∷ rows) (later (n + 1) xs x ∙ ap (λ k. map at (enumerate_from (n + 1) xs) ++ cells k x ∷ []) e)
 
-  -- one row more is read
-  pub read_more : (xs : List T) (x : T) (rest left rows : List Row) (row : Row) (place : ℕ) → rows_of cells xs ++ rest ≡ rows → 0 < length rest → row ≡ slice_index_or rest 0 row → left ≡ drop 1 rest → place ≡ length xs + 1 → row ≡ cells place x → rows_of cells (xs ++ x ∷ []) ++ left ≡ rows
-  read_more xs x [] left rows row place so_far some first less here is = absurd (omega (arith, some))
-  read_more xs x (r ∷ rest) left rows row place so_far some first less here is =
+  -- one row more is that of a value
+  pub rows_more : (xs : List T) (x : T) (rest : List Row) (row : Row) (place : ℕ) → length rest ≡ 0 → place ≡ length xs + 1 → row ≡ cells place x → rows_of cells (xs ++ x ∷ []) ++ rest ≡ (rows_of cells xs ++ rest) ++ row ∷ []
+  rows_more xs x (r ∷ rest) row place none here is = absurd cc
+  rows_more xs x [] row place none here is =
       let e : 1 + length xs ≡ place = omega (arith, here) in
-      ap (λ rs. rs ++ left) (later 1 xs x ∙ ap (λ k. rows_of cells xs ++ cells k x ∷ []) e)
-      ∙ append_assoc (rows_of cells xs) (cells place x ∷ []) left ∙ (λ k. rows_of cells xs ++ (sym is ∙ first) k ∷ less k) ∙ so_far
+      append-nil _ ∙ later 1 xs x ∙ (λ k. rows_of cells xs ++ (ap (λ n. cells n x) e ∙ sym is) k ∷ []) ∙ ap (λ rs. rs ++ row ∷ []) (sym (append-nil (rows_of cells xs)))
 
   long : (n : ℕ) (xs : List T) → length (map at (enumerate_from n xs)) ≡ length xs
   long n [] = refl
@@ -168,13 +167,13 @@ any_project : ProjectRow
 any_project = record { version = 1; next_number = 1 }
 
 -- a first row that is not that of a project is in the way
-pub lacks_project : (rows : List Row) → LacksProject rows → IsNoProject rows 1
+pub lacks_project : (rows : List Row) → LacksProjectRow rows → IsNoProject rows 1
 unfolding any_project
 lacks_project [] lacks = record { counted = omega arith; wanted = any_project; stored = record { version = omega arith; next_number = (omega arith, omega arith) }; before = refl; other = lacks }
 lacks_project (row ∷ rows) lacks = record { counted = omega arith; wanted = any_project; stored = record { version = omega arith; next_number = (omega arith, omega arith) }; before = refl; other = lacks }
 
 -- where there are no more, it is the one row
-pub one_project : (rows : List Row) (project : ProjectRow) → slice_get rows 0 ≡ Some (project_row project) → length rows ≤ 1 → rows ≡ project_row project ∷ []
+pub one_project : (rows : List Row) (project : ProjectRow) → slice_get rows 0 ≡ Some (project_row_of project) → length rows ≤ 1 → rows ≡ project_row_of project ∷ []
 one_project [] project first few = absurd cc
-one_project (r ∷ []) project first few = let same : r ≡ project_row project = cc in ap (λ (row : Row). row ∷ []) same
+one_project (r ∷ []) project first few = let same : r ≡ project_row_of project = cc in ap (λ (row : Row). row ∷ []) same
 one_project (r ∷ q ∷ rows) project first few = absurd (omega (arith, few))

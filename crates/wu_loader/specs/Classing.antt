@@ -28,9 +28,9 @@ abbrev pub AreOfOthers : List Workunit → List Classed → Type 0
 AreOfOthers workunits classes = numbers workunits ≢ numbers_classed classes
 
 -- The order of hosts by the bytes of their names.
-abbrev pub by_host : HostClass → HostClass → Ordering
-by_host one other = slice_cmp nat_cmp one.host other.host
+abbrev pub by_classed_host : HostClass → HostClass → Ordering
+by_classed_host one other = slice_cmp nat_cmp one.host other.host
 
 -- Each host is below the one after it.
 abbrev pub AreRising : List HostClass → Type 0
-AreRising classes = (k : ℕ) (d : HostClass) → k + 1 < length classes → by_host (slice_index_or classes k d) (slice_index_or classes (k + 1) d) ≡ Less
+AreRising classes = (k : ℕ) (d : HostClass) → k + 1 < length classes → by_classed_host (slice_index_or classes k d) (slice_index_or classes (k + 1) d) ≡ Less

@@ -11,7 +11,7 @@ use Rattle.wu_core.specs.declared.workunit.HostClass.{HostClass}
 use Rattle.wu_core.specs.declared.workunit.Workunit.{Workunit}
 use Rattle.wu_schema.specs.Refines.{host_of}
 use Rattle.wu_schema.specs.Stored.{class_cells, import_cells}
-use Rattle.wu_loader.specs.Rows.{archived_row, grant_row, placed_row, project_row, IsStoredGrant, IsStoredImport, IsStoredPlaced, IsStoredProject}
+use Rattle.wu_loader.specs.Rows.{archived_row_at, grant_row, placed_row, project_row_of, IsStoredGrant, IsStoredImport, IsStoredPlaced, IsStoredProject}
 use Rattle.wu_schema.specs.Reading.{IsStoredHostClass}
 use Rattle.wu_loader.specs.Whole.{rows_of, AreOfValues}
 use Rattle.wu_loader.specs.Worlds.{AreRowsOfWorks}
@@ -32,7 +32,7 @@ pub record AreProjectRows (version : ℕ) (rows : List Row) : Type 0 where
   pub project : ProjectRow
   pub stored : IsStoredProject project
   pub is : project.version ≡ version
-  pub rows_are : rows ≡ project_row project ∷ []
+  pub rows_are : rows ≡ project_row_of project ∷ []
 
 -- The rows of results are those of the instances of the workunits of these rows; a workunit has at most 100.
 pub record AreResults (works rows : List Row) : Type 0 where
@@ -61,7 +61,7 @@ IsRightPlain version rows the_table.Workunit = AreWorkunits rows.workunits
 IsRightPlain version rows the_table.Result = AreResults rows.workunits rows.instances
 IsRightPlain version rows the_table.Grant = AreOfValues grant_row IsStoredGrant rows.grants
 IsRightPlain version rows the_table.Host = AreHostsOf rows.grants rows.hosts
-IsRightPlain version rows the_table.Archived = AreOfValues archived_row IsStoredArchived rows.archived
+IsRightPlain version rows the_table.Archived = AreOfValues archived_row_at IsStoredArchived rows.archived
 IsRightPlain version rows the_table.Import = AreOfValues (λ _. import_cells) IsStoredImport rows.imports
 IsRightPlain version rows _ = ⊤
 

@@ -13,8 +13,8 @@ use Rattle.wu_loader.specs.declared.rows.ProjectRow.{ProjectRow}
 
 -- ---- rows
 
-abbrev pub project_row : ProjectRow → Row
-project_row p = number 1 ∷ number p.version ∷ number p.next_number ∷ []
+abbrev pub project_row_of : ProjectRow → Row
+project_row_of p = number 1 ∷ number p.version ∷ number p.next_number ∷ []
 
 abbrev pub placed_row : Placed → Row
 placed_row p = instance_cells p.workunit p.n p.instance
@@ -30,8 +30,8 @@ classed_of w = record { workunit = w.number; class = w.class }
 abbrev pub grant_row : ℕ → Grant → Row
 grant_row place g = number place ∷ grant_cells g
 
-abbrev pub archived_row : ℕ → Archived → Row
-archived_row place a = number place ∷ archived_cells a
+abbrev pub archived_row_at : ℕ → Archived → Row
+archived_row_at place a = number place ∷ archived_cells a
 
 -- ---- values
 

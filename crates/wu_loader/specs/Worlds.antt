@@ -12,7 +12,7 @@ use Rattle.wu_core.specs.World.{MayBeKept, World}
 use Rattle.wu_core.specs.declared.workunit.Workunit.{Workunit}
 use Rattle.wu_schema.specs.Refines.{LacksClasses, host_of, instances_of}
 use Rattle.wu_schema.specs.Stored.{class_cells, import_cells, workunit_row}
-use Rattle.wu_loader.specs.Rows.{archived_row, classed_of, classed_row, grant_row, project_row, IsStoredGrant, IsStoredProject}
+use Rattle.wu_loader.specs.Rows.{archived_row_at, classed_of, classed_row, grant_row, project_row_of, IsStoredGrant, IsStoredProject}
 use Rattle.wu_schema.specs.Reading.{IsStoredHostClass}
 use Rattle.wu_loader.specs.Whole.{rows_of}
 use Rattle.wu_loader.specs.declared.rows.ProjectRow.{ProjectRow}
@@ -31,12 +31,12 @@ IsOrdered workunits = IsAscending (λ (one other : Workunit). one.number < other
 
 -- The rows of the tables that every version has are what the world holds.
 pub record ArePlainRowsOf (rows : PlainRows) (world : World) : Type 0 where
-  pub project : rows.project.items ≡ project_row (project_of world) ∷ []
+  pub project : rows.project.items ≡ project_row_of (project_of world) ∷ []
   pub workunits : rows.workunits ≡ map workunit_row world.workunits
   pub instances : IsPermutation (flat_map instances_of world.workunits) rows.instances
   pub grants : rows.grants ≡ rows_of grant_row world.grants
   pub hosts : IsPermutation (map (host_of world.grants) (hosts_of world.grants)) rows.hosts
-  pub archived : rows.archived ≡ rows_of archived_row world.archived
+  pub archived : rows.archived ≡ rows_of archived_row_at world.archived
   pub imports : IsPermutation (map import_cells world.imports) rows.imports
   pub imports_kept : All MayBeKept world.imports
 

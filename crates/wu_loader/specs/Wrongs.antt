@@ -8,10 +8,10 @@ use Rattle.wu_core.specs.declared.workunit.Grant.{Grant}
 use Rattle.wu_core.specs.declared.workunit.HostClass.{HostClass}
 use Rattle.wu_core.specs.declared.workunit.Workunit.{Workunit}
 use Rattle.wu_schema.specs.Stored.{class_cells, import_cells, workunit_row}
-use Rattle.wu_loader.specs.Classing.{by_host}
+use Rattle.wu_loader.specs.Classing.{by_classed_host}
 use Rattle.wu_loader.specs.Dealing.{by_place, AreDealt}
 use Rattle.wu_loader.specs.Granting.{by_name, IsWrongHost}
-use Rattle.wu_loader.specs.Rows.{archived_row, classed_row, grant_row, placed_row, project_row, IsStoredClass, IsStoredGrant, IsStoredImport, IsStoredPlaced, IsStoredProject}
+use Rattle.wu_loader.specs.Rows.{archived_row_at, classed_row, grant_row, placed_row, project_row_of, IsStoredClass, IsStoredGrant, IsStoredImport, IsStoredPlaced, IsStoredProject}
 use Rattle.wu_schema.specs.Reading.{host_row, IsStoredHost, IsStoredHostClass}
 use Rattle.wu_loader.specs.Whole.{rows_of, AreOfValues, AreSorted, DiffersAt, IsIn, IsNoRow, IsNotAbove}
 use Rattle.wu_loader.specs.Worlds.{IsOrdered}
@@ -28,27 +28,27 @@ use Rattle.wu_loader.specs.declared.tables.TableRows.{TableRows}
 -- ---- the project
 
 -- The first row is not that of a project.
-abbrev pub LacksProject : List Row → Type 0
-LacksProject rows = (project : ProjectRow) → IsStoredProject project → slice_get rows 0 ≢ Some (project_row project)
+abbrev pub LacksProjectRow : List Row → Type 0
+LacksProjectRow rows = (project : ProjectRow) → IsStoredProject project → slice_get rows 0 ≢ Some (project_row_of project)
 
 -- At this place the row is first not what a project has there: it is another, missing, or a second one.
 pub record IsNoProject (rows : List Row) (place : ℕ) : Type 0 where
   pub counted : 1 ≤ place
   pub wanted : ProjectRow
   pub stored : IsStoredProject wanted
-  pub before : take (place - 1) rows ≡ take (place - 1) (project_row wanted ∷ [])
-  pub other : (project : ProjectRow) → IsStoredProject project → slice_get rows (place - 1) ≢ slice_get (project_row project ∷ []) (place - 1)
+  pub before : take (place - 1) rows ≡ take (place - 1) (project_row_of wanted ∷ [])
+  pub other : (project : ProjectRow) → IsStoredProject project → slice_get rows (place - 1) ≢ slice_get (project_row_of project ∷ []) (place - 1)
 
 -- The one row is that of a project of another version.
-pub record HasOtherVersion (version : ℕ) (rows : List Row) (place : ℕ) : Type 0 where
+pub record IsOfOtherVersion (version : ℕ) (rows : List Row) (place : ℕ) : Type 0 where
   pub first : place ≡ 1
   pub project : ProjectRow
-  pub rows_are : rows ≡ project_row project ∷ []
+  pub rows_are : rows ≡ project_row_of project ∷ []
   pub stored : IsStoredProject project
   pub other : project.version ≢ version
 
 abbrev pub IsWrongProject : ℕ → List Row → ℕ → Type 0
-IsWrongProject version rows place = IsNoProject rows place ⊎ HasOtherVersion version rows place
+IsWrongProject version rows place = IsNoProject rows place ⊎ IsOfOtherVersion version rows place
 
 -- ---- results
 
@@ -104,9 +104,9 @@ pub record IsWrongHostBeside (given rows : List Row) (place : ℕ) : Type 0 wher
 -- In order of host, this row is the first whose host is not above that of the row before it.
 pub record StandsTwice (rows : List Row) (place : ℕ) : Type 0 where
   pub classes : List HostClass
-  pub read : AreSorted class_cells IsStoredHostClass by_host rows classes
+  pub read : AreSorted class_cells IsStoredHostClass by_classed_host rows classes
   pub counted : 1 ≤ place
-  pub twice : IsNotAbove by_host classes (place - 1)
+  pub twice : IsNotAbove by_classed_host classes (place - 1)
 
 abbrev pub IsWrongHostClass : List Row → ℕ → Type 0
 IsWrongHostClass rows place = IsNoRow (λ _. class_cells) IsStoredHostClass rows place ⊎ StandsTwice rows place
@@ -130,7 +130,7 @@ IsWrongPlainAt version rows the_table.Workunit place = IsNoRow (λ _. workunit_r
 IsWrongPlainAt version rows the_table.Result place = IsWrongResult rows.workunits rows.instances place
 IsWrongPlainAt version rows the_table.Grant place = IsNoRow grant_row IsStoredGrant rows.grants place
 IsWrongPlainAt version rows the_table.Host place = IsWrongHostBeside rows.grants rows.hosts place
-IsWrongPlainAt version rows the_table.Archived place = IsNoRow archived_row IsStoredArchived rows.archived place
+IsWrongPlainAt version rows the_table.Archived place = IsNoRow archived_row_at IsStoredArchived rows.archived place
 IsWrongPlainAt version rows the_table.Import place = IsNoRow (λ _. import_cells) IsStoredImport rows.imports place
 IsWrongPlainAt version rows _ place = ⊥
 

@@ -8,7 +8,7 @@ ghost use Rattle.wu_core.specs.Classes.{AreInOrder};
 ghost use Rattle.wu_core.specs.declared.workunit.HostClass.{HostClass};
 ghost use Rattle.wu_schema.specs.Stored.{class_cells};
 ghost use Rattle.wu_schema.specs.Reading.{IsStoredHostClass};
-ghost use Rattle.wu_loader.specs.Classing.{by_host, numbers, numbers_classed, AreClassedBy, AreOfOthers, AreRising};
+ghost use Rattle.wu_loader.specs.Classing.{by_classed_host, numbers, numbers_classed, AreClassedBy, AreOfOthers, AreRising};
 ghost use Rattle.wu_loader.specs.Whole.{DiffersAt, IsIn, IsNotAbove, UnlessMemory};
 ghost use Rattle.wu_loader.specs.Wrongs.{IsWrongHostClass};
 
@@ -80,14 +80,14 @@ pub(crate) fn with_classes(
 /// Sorts the hosts by their names.
 fn sort(classes: &mut Vec<HostClass>) -> Result<(), AllocError>
     ensures same { IsPermutation classes.old.items classes.new.items }
-    ensures sorted { OnOk result (IsSorted by_host classes.new.items) }
+    ensures sorted { OnOk result (IsSorted by_classed_host classes.new.items) }
 {
     classes.sort_by(|one, other| one.host.as_str().cmp(other.host.as_str()))
 }
 
 /// Returns whether the name of the one is below that of the other.
 fn is_below(one: &HostClass, other: &HostClass) -> bool
-    ensures { IsTrue result ↔ (by_host one.now other.now ≡ Less) }
+    ensures { IsTrue result ↔ (by_classed_host one.now other.now ≡ Less) }
 {
     one.host.as_str().cmp(other.host.as_str()).is_lt()
 }
@@ -96,7 +96,7 @@ fn is_below(one: &HostClass, other: &HostClass) -> bool
 fn first_out_of_order(classes: &[HostClass]) -> Option<usize>
     ensures order { MatchOption result (AreRising classes.now) (λ _. ¬ AreRising classes.now) }
     ensures within { IfSome result (λ place. place < length classes.now) }
-    ensures told { IfSome result (IsNotAbove by_host classes.now) }
+    ensures told { IfSome result (IsNotAbove by_classed_host classes.now) }
 {
     for place in 1..classes.len() {
         if !is_below(&classes[place - 1], &classes[place]) {

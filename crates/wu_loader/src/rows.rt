@@ -6,7 +6,7 @@ ghost use Rattle.wu_core.specs.Storable.{IsStoredArchived, IsStoredWorkunit};
 ghost use Rattle.wu_schema.specs.Restoring.{Restores};
 ghost use Rattle.wu_schema.specs.Stored.{class_cells, import_cells, workunit_row};
 ghost use Rattle.wu_schema.specs.Reading.{host_row, IsStoredHost, IsStoredHostClass};
-ghost use Rattle.wu_loader.specs.Rows.{archived_row, classed_row, grant_row, placed_row, project_row, IsStoredClass, IsStoredGrant, IsStoredImport, IsStoredPlaced, IsStoredProject};
+ghost use Rattle.wu_loader.specs.Rows.{archived_row_at, classed_row, grant_row, placed_row, project_row_of, IsStoredClass, IsStoredGrant, IsStoredImport, IsStoredPlaced, IsStoredProject};
 
 use sqlite::Row;
 use std::alloc::Global;
@@ -41,7 +41,7 @@ pub struct ProjectRow {
 }
 
 impl FromRow for ProjectRow {
-    ghost cells = { λ _. project_row };
+    ghost cells = { λ _. project_row_of };
 
     ghost is_value = { IsStoredProject };
 
@@ -89,7 +89,7 @@ impl FromRow for Grant {
 }
 
 impl FromRow for Archived {
-    ghost cells = { archived_row };
+    ghost cells = { archived_row_at };
 
     ghost is_value = { IsStoredArchived };
 

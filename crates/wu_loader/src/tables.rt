@@ -18,7 +18,7 @@ use std::alloc::Global;
 use wu_audit::Imported;
 use wu_core::{Archived, CLASS_VERSION, Fault, Grant, HostClass, Workunit};
 use wu_schema::rows::HostSum;
-use wu_schema::{ProjectTable, query};
+use wu_schema::{ProjectTable, fault_of, query};
 
 /// The rows of the tables that every version has, as questions show them.
 #[derive(Drop)]
@@ -75,7 +75,7 @@ fn rows_of<S: Alter>(conn: &mut Connection<S>, table: ProjectTable) -> Result<Ve
     query(conn, question(table), &[])
 }
 
-/// Returns all rows of a table, held as values. It gives the rows' memory back before the next table is read.
+/// Returns all rows of a table, held as values. They are read one at a time, so the table is never held as rows.
 pub(crate) fn read_rows<S: Alter, T: FromRow + Drop>(
     conn: &mut Connection<S>,
     alloc: Global,
@@ -87,8 +87,22 @@ pub(crate) fn read_rows<S: Alter, T: FromRow + Drop>(
         → LooksAtTables version S.Store conn.old conn.new result
         (λ db trees rows. ShowsTable table db.trees trees rows) }
 {
-    let rows = rows_of(conn, table)?;
-    Ok(RowsOf::read(alloc, rows)?)
+    let mut read = RowsOf::new(alloc);
+    let mut rows = match conn.query(question(table), &[]) {
+        Ok(rows) => rows,
+        Err(error) => return Err(fault_of(&error)),
+    };
+    // no table has so many rows
+    'rows: for _ in 0..u64::MAX {
+        if let Err(error) = rows.advance() {
+            return Err(fault_of(&error));
+        }
+        let Some(row) = rows.get() else {
+            return Ok(read);
+        };
+        read.push(alloc, row)?;
+    }
+    Err(Fault::Memory)
 }
 
 /// Returns the rows of the tables that every version has. Changes nothing.

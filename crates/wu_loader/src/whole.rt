@@ -1,13 +1,12 @@
 //! All rows of a table as values.
 
-ghost use Rattle.std.specs.Prelude.{◌≡◌, ◌++◌, ◌+◌, All, IfErr, IfOk, length};
+ghost use Rattle.std.specs.Prelude.{◌≡◌, ◌++◌, ◌∷◌, [], All, IfErr, IfOk, OnOk};
 ghost use Rattle.wu_loader.specs.Whole.{rows_of, IsIn, IsNoRow, StartsWithNoRow, UnlessMemory};
 
 use crate::finding::{NoWorld, WrongRow};
 use crate::rows::FromRow;
 use sqlite::Row;
 use std::alloc::{AllocError, Global};
-use std::collections::VecDeque;
 use std::marker::Model;
 use wu_core::Fault;
 use wu_schema::ProjectTable;
@@ -17,7 +16,7 @@ use wu_schema::ProjectTable;
 #[derive(Drop)]
 pub struct RowsOf<T: FromRow + Drop> {
     values: Vec<T>,
-    rest: VecDeque<Row>,
+    rest: Vec<Row>,
 }
 
 impl<T: FromRow + Drop> Model for RowsOf<T> {
@@ -34,25 +33,35 @@ impl<T: FromRow + Drop> Model for RowsOf<T> {
 }
 
 impl<T: FromRow + Drop> RowsOf<T> {
-    /// Reads rows as values, up to the first that represents none. It gives the memory of each row back once it is
-    /// read.
-    pub(crate) fn read(alloc: Global, rows: Vec<Row>) -> Result<Self, AllocError>
-        // After `Ok` these are the rows.
-        ensures { IfOk result (λ read. read ≡ rows.items) }
+    /// Makes the rows of a table of which none is read yet.
+    pub(crate) fn new(alloc: Global) -> Self
+        // There is no row.
+        ensures { result ≡ [] }
     {
-        // no place is taken for values whose rows are still there
-        let mut values = Vec::new(alloc);
-        let mut rest = VecDeque::from(rows);
-        'each: while let Some(row) = rest.front() {
-            let place = values.len() as u64 + 1;
+        RowsOf {
+            values: Vec::new(alloc),
+            rest: Vec::new(alloc),
+        }
+    }
+
+    /// Takes the next row of the table, as a value if all rows so far are those of values.
+    pub(crate) fn push(&mut self, alloc: Global, row: &Row) -> Result<(), AllocError>
+        // After `Ok` the row stands after those from before.
+        ensures { OnOk result (self.new ≡ self.old ++ row.now ∷ []) }
+    {
+        if self.rest.is_empty() {
+            let place = self.values.len() as u64 + 1;
             match T::from_row(alloc, place, row) {
-                Ok(value) => values.push(value)?,
-                Err(Fault::NotAProject) => return Ok(RowsOf { values, rest }),
+                Ok(value) => {
+                    self.values.push(value)?;
+                    return Ok(());
+                }
+                Err(Fault::NotAProject) => {}
                 Err(_) => return Err(AllocError),
             }
-            rest.pop_front();
         }
-        Ok(RowsOf { values, rest })
+        self.rest.push(row.copy()?)?;
+        Ok(())
     }
 
     /// Returns the values that the rows of this table represent, or the first row that represents none.

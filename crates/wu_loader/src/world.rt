@@ -4,11 +4,11 @@ ghost use Rattle.std.specs.Prelude.{◌≡◌, ◌≢◌, [], ◌∷◌, IfErr, 
 ghost use Rattle.wu_core.specs.Classes.{AreInOrder};
 ghost use Rattle.wu_core.specs.World.{World};
 ghost use Rattle.wu_schema.specs.Stored.{workunit_row};
-ghost use Rattle.wu_loader.specs.Rows.{project_row, IsStoredProject};
+ghost use Rattle.wu_loader.specs.Rows.{project_row_of, IsStoredProject};
 ghost use Rattle.wu_loader.specs.Whole.{IsIn, UnlessMemory};
 ghost use Rattle.wu_loader.specs.Worlds.{plain_world, AreAnyClassRowsOf, ArePlainRowsOf, AreRowsOf, HasClassesOf, IsOrdered, IsReadable};
 ghost use Rattle.wu_loader.specs.First.{AreRightBefore, IsFirstClass, IsFirstPlain, IsFirstWrong};
-ghost use Rattle.wu_loader.specs.Wrongs.{IsWrongProject, LacksProject};
+ghost use Rattle.wu_loader.specs.Wrongs.{IsWrongProject, LacksProjectRow};
 ghost use Rattle.wu_loader.specs.declared.finding.NoWorld.TheVariants.{Wrong};
 ghost use Rattle.wu_loader.specs.declared.rows.ProjectRow.{ProjectRow};
 
@@ -37,12 +37,12 @@ fn wrong_project(place: u64) -> NoWorld
 /// Returns the project of the first row. Reports the first place if that is the row of no project, or is missing.
 fn first_project(alloc: Global, rows: &[Row]) -> Result<ProjectRow, NoWorld>
     // After `Ok` the first row is that of this project.
-    ensures first { IfOk result (λ project. slice_get rows.now 0 ≡ Some (project_row project)) }
+    ensures first { IfOk result (λ project. slice_get rows.now 0 ≡ Some (project_row_of project)) }
     // After `Ok` the project is in its ranges.
     ensures stored { IfOk result IsStoredProject }
     // The first place is reported, and no row of a project is there.
     ensures none { IfErr result (λ reason. UnlessMemory reason (λ wrong.
-        IsIn ProjectTable.Project (λ place. (place ≡ 1) × LacksProject rows.now) wrong)) }
+        IsIn ProjectTable.Project (λ place. (place ≡ 1) × LacksProjectRow rows.now) wrong)) }
 {
     match rows {
         [] => Err(wrong_project(1)),
@@ -58,7 +58,7 @@ fn first_project(alloc: Global, rows: &[Row]) -> Result<ProjectRow, NoWorld>
 /// there are more.
 fn project_from(alloc: Global, version: u64, rows: &[Row]) -> Result<ProjectRow, NoWorld>
     // After `Ok` the one row is that of this project.
-    ensures project { IfOk result (λ project. rows.now ≡ project_row project ∷ []) }
+    ensures project { IfOk result (λ project. rows.now ≡ project_row_of project ∷ []) }
     // After `Ok` the project is of this version.
     ensures version { IfOk result (λ project. project.version ≡ version) }
     // After `Ok` the project is in its ranges.
@@ -66,7 +66,7 @@ fn project_from(alloc: Global, version: u64, rows: &[Row]) -> Result<ProjectRow,
     // A row that is reported means that the rows are not the one row of a project of this version.
     ensures none { IfErr result (λ reason. UnlessMemory reason (λ _. (project : ProjectRow)
         → IsStoredProject project → project.version ≡ version
-        → rows.now ≢ project_row project ∷ [])) }
+        → rows.now ≢ project_row_of project ∷ [])) }
     // The place is the first at which a project of this version has another row, or none.
     ensures told { IfErr result (λ reason. UnlessMemory reason (IsIn ProjectTable.Project
         (IsWrongProject version rows.now))) }

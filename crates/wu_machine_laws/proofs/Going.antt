@@ -16,7 +16,7 @@ use Rattle.wu_machine.specs.Machine.{step}
 use Rattle.wu_machine.specs.Passes.{images, is_among, passed}
 use Rattle.wu_machine.specs.Requests.{Request, AskBatch, AskCancel, AskClasses, AskPass, AskReported, AskSent, AskUpgrade}
 use Rattle.wu_machine.proofs.ImageLemmas.{assimilated_of, emptied_of, transitioned_of, validated_of}
-use Rattle.wu_machine_laws.specs.Leaving.{GoesByPurgeAlone, PurgedIsGone, Takes}
+use Rattle.wu_machine_laws.specs.Leaving.{GoesByPurgeAlone, PurgedIsGone, TakesAway}
 use Rattle.wu_machine_laws.proofs.LeavingLaws.{leaves_others, reported_numbers, sent_numbers}
 use Rattle.wu_machine_laws.proofs.Middles.{to_pairs}
 use Rattle.wu_machine_laws.proofs.Results.{asked, pass_by}
@@ -109,7 +109,7 @@ purged_or_left world now min_age limit order k d low =
 
 -- what is present is kept, or taken out
 abbrev Kept : World → Request → World → Type 0
-Kept world request after = All (λ w. (is_among after.workunits w ≡ true) ⊎ Takes request w) world.workunits
+Kept world request after = All (λ w. (is_among after.workunits w ≡ true) ⊎ TakesAway request w) world.workunits
 
 kept_all : (world : World) (request : Request) (after : World) → All (λ w. is_among after.workunits w ≡ true) world.workunits → Kept world request after
 kept_all world request after all k d low = inl (all k d low)

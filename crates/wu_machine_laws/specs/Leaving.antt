@@ -32,15 +32,15 @@ use Rattle.wu_machine_laws.specs.Lasting.{Begins}
 -- ---- what is removed
 
 -- The request is a purge, at a moment and a least age at which the workunit may be purged.
-abbrev pub Takes : Request → Workunit → Type 0
-Takes (AskPass Purge now limit min_age) w = is_purgeable w now min_age ≡ true
-Takes _ w = ⊥
+abbrev pub TakesAway : Request → Workunit → Type 0
+TakesAway (AskPass Purge now limit min_age) w = is_purgeable w now min_age ≡ true
+TakesAway _ w = ⊥
 
 -- A workunit is present after a request, unless the request is a purge that may remove it.
 abbrev pub GoesByPurgeAlone : Type 0
 GoesByPurgeAlone =
     (world : World) (request : Request) → IsInOrder world
-    → All (λ w. (is_among (step world request).workunits w ≡ true) ⊎ Takes request w) world.workunits
+    → All (λ w. (is_among (step world request).workunits w ≡ true) ⊎ TakesAway request w) world.workunits
 
 -- A workunit that a purge takes is no longer present.
 abbrev pub PurgedIsGone : Type 0

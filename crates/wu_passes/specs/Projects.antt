@@ -51,8 +51,8 @@ abbrev pub older_version : {S : Type 0} {g : Ghosts S} → Project S g → Optio
 older_version project = project.older
 
 -- Whether the adoption of the session made the project.
-abbrev pub is_new : {S : Type 0} {g : Ghosts S} → Project S g → Bool
-is_new project = project.is_new
+abbrev pub is_new_project : {S : Type 0} {g : Ghosts S} → Project S g → Bool
+is_new_project project = project.is_new
 
 -- The older version that a request is refused for; an upgrade is refused for none.
 abbrev pub refused_for : Request → Option ℕ → Option ℕ
@@ -175,7 +175,7 @@ pub record BeginsSession {S : Type 0} (g : Ghosts S) (conn : Held S) (project : 
   -- Whatever world the tables represent, the session knows the version of it.
   pub knows : KnowsTables project
   -- The project is new if there was none before.
-  pub told : TellsNew (state g conn) (state_of project) (is_new project)
+  pub told : TellsNew (state g conn) (state_of project) (is_new_project project)
 
 -- On a clean disk, the command runs over each world over which the session goes on.
 abbrev pub RunsOn : {S : Type 0} {g : Ghosts S} → Project S g → Project S g → Command → Result Answer Fault → Type 0

@@ -70,8 +70,8 @@ pub record HasGrants (world : World) (grants : List Grant) (old new : List Chang
   pub keeps : KeepsGrants world.grants grants given
   pub changes : new ≡ old ++ given
 
-abbrev pub AddsGrants : {T : Type 0} → List Grant → List Change → List Change → Result T Fault → World → Type 0
-AddsGrants grants old new result world = OnOk result (HasGrants world grants old new)
+abbrev pub PlansGrants : {T : Type 0} → List Grant → List Change → List Change → Result T Fault → World → Type 0
+PlansGrants grants old new result world = OnOk result (HasGrants world grants old new)
 
 -- The changes end with these archived rows, at the next places of the world's archived rows.
 pub record HasArchivedRows (world : World) (rows : List Archived) (old new : List Change) : Type 0 where

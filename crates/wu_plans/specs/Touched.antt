@@ -33,8 +33,8 @@ pub record IsImportOf {Row : Type 0} (world : World) (request : Request) (given 
   pub before : MakesNothing world request → CameBefore world given
 
 -- A file of this kind is imported as such rows.
-abbrev pub AreRowsOf : {Row : Type 0} → ImportKind → (List ℕ → List ℕ → Request) → (List ℕ → Result (List Row) Fault) → (List HostClass → Rule Row) → Type 0
-AreRowsOf kind asks rows_of rule =
+abbrev pub IsImportedAs : {Row : Type 0} → ImportKind → (List ℕ → List ℕ → Request) → (List ℕ → Result (List Row) Fault) → (List HostClass → Rule Row) → Type 0
+IsImportedAs kind asks rows_of rule =
     (world : World) (name content : List ℕ)
     → IsImportOf world (asks name content) (record { kind = kind; name = name; template = []; content = content }) (rows_of content) (rule world.classes)
 

@@ -4,7 +4,7 @@
 ghost use Rattle.std.specs.Prelude.{⊤, ◌≡◌, ◌<◌, ◌≤◌, ◌^◌, ◌++◌, [], true, length, map, None, IfErr, IfOk};
 ghost use Rattle.wu_core.specs.declared.fault.Fault.TheVariants.{Memory};
 ghost use Rattle.wu_machine.specs.Machine.{is_limit_right};
-ghost use Rattle.wu_plans.specs.PassPlans.{asked, AddsArchivedRows, AddsFrom, AddsGrants, AddsGiven, HandlesAll, HandlesAlso, IsImageOf, PlansTaken};
+ghost use Rattle.wu_plans.specs.PassPlans.{asked, AddsArchivedRows, AddsFrom, PlansGrants, AddsGiven, HandlesAll, HandlesAlso, IsImageOf, PlansTaken};
 ghost use Rattle.wu_plans.specs.Planning.{IsPresentProject, PlansNow, PlansProject};
 ghost use Rattle.wu_machine.specs.Requests.{AskPass};
 ghost use Rattle.wu_store.specs.Changing.{archived_from};
@@ -280,7 +280,7 @@ fn and_grants<S: Alter>(
     // With a grant, the connection is open afterwards, except after `Memory` and `Broken`.
     // The grants get the next places of the world's, in order.
     ensures { ReadsWorldIf S.Store conn.old conn.new result (0 < length grants.items)
-        (AddsGrants grants.items changes.old.items changes.new.items) (λ _. ⊤) }
+        (PlansGrants grants.items changes.old.items changes.new.items) (λ _. ⊤) }
 {
     if grants.is_empty() {
         return Ok(());

@@ -26,7 +26,7 @@ pub trait FileRow: Drop {
     ghost use Rattle.wu_core.specs.declared.workunit.HostClass.{HostClass};
     ghost use Rattle.wu_machine.specs.FileRows.{KeepsIdentity, Rule, unknown};
     ghost use Rattle.wu_machine.specs.Requests.{Request};
-    ghost use Rattle.wu_plans.specs.Touched.{AreRowsOf, rule_in};
+    ghost use Rattle.wu_plans.specs.Touched.{IsImportedAs, rule_in};
     ghost use Rattle.wu_store.specs.Reads.{FindsAt, ReadsClassedIf};
 
     /// What a file of this name and this content asks of the machine.
@@ -44,7 +44,7 @@ pub trait FileRow: Drop {
     /// Returns the kind of a file of such rows.
     fn kind() -> ImportKind
         // A new file of this kind is read as such rows, and each has the verdict of the rule.
-        ensures { AreRowsOf result asks rows_of (rule_in rule class_in) };
+        ensures { IsImportedAs result asks rows_of (rule_in rule class_in) };
 
     /// Reads the rows of a file.
     fn read(alloc: Global, file: &[u8]) -> Result<Rows<Self>, Fault>

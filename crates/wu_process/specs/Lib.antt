@@ -9,5 +9,4 @@ pub mod MemoryFiles
 pub mod Opening
 pub mod Running
 pub mod Processes
-pub mod Signs
 pub mod Serving

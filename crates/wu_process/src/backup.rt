@@ -8,7 +8,6 @@ ghost use Rattle.wu_schema.specs.Asking.{Asks};
 ghost use Rattle.wu_schema.specs.Faults.{IsStoreFault};
 
 use crate::copy::copy_files;
-use crate::header::has_many_free_pages;
 use crate::memory_file::MemoryFile;
 use crate::new_file::{MakeFile, refuse_path};
 use crate::opening::{open_copy, options};
@@ -18,6 +17,7 @@ use std::alloc::Global;
 use wu_audit::Loaded;
 use wu_cli::{Counts, Reason, Trouble, count_sound};
 use wu_core::Fault;
+use wu_host::has_many_free_pages;
 use wu_refill::{create_filled, load_alone};
 
 /// What was found of a sound project: its numbers, and its world, if a new file can be made of that.

@@ -3,14 +3,14 @@
 ghost use Rattle.std.specs.Prelude.{IfErr};
 ghost use Rattle.wu_process.specs.Opening.{IsBar};
 
-use crate::beside::{
-    has_content_beside, has_foreign_log, has_linked_log, has_log, is_emptied, is_foreign,
-    is_no_file,
-};
 use std::fs;
 use std::io::{self, ErrorKind};
 use wu_cli::{Reason, Trouble, names_log};
 use wu_core::Fault;
+use wu_host::{
+    has_content_beside, has_foreign_log, has_linked_log, has_log, is_emptied, is_foreign,
+    is_no_file,
+};
 
 /// Refuses the name of a log, and a link, or something else, in the place of a log or a journal.
 fn refuse_beside(rt: &HostRuntime, path: &str) -> Result<(), Reason> {

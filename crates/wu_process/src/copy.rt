@@ -5,7 +5,6 @@ ghost use Rattle.wu_cli.specs.declared.reason.Reason.TheVariants.{Memory as Want
 ghost use Rattle.wu_process.specs.Copies.{AreCopiedFrom, AreCopiesOf, IsCopyOf};
 
 use crate::barring::{refuse_present, why_not_found};
-use crate::header::refuse_other_kind;
 use crate::memory_file::MemoryFile;
 use sqlite::{FileFrom, Files};
 use sqlite_disk::{Disk, Wary};
@@ -16,6 +15,7 @@ use std::io::{self, ErrorKind};
 use std::os::unix::fs::MetadataExt;
 use std::time::SystemTime;
 use wu_cli::Reason;
+use wu_host::is_other_kind;
 
 /// The bytes of the files of a database.
 #[derive(Drop)]
@@ -135,7 +135,9 @@ fn read_database<'a>(rt: &HostRuntime, path: &'a str) -> Result<FileBytes<'a>, R
     let log = format!(in rt.alloc(); "{}-wal", real.as_str())?;
     refuse_present(rt, real.as_str())?;
     let bytes = read_at_once(rt, path, real.as_str(), log.as_str())?;
-    refuse_other_kind(&bytes.log, &bytes.db)?;
+    if is_other_kind(&bytes.log, &bytes.db) {
+        return Err(Reason::OtherKind);
+    }
     Ok(bytes)
 }
 

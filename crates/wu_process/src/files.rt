@@ -2,9 +2,9 @@
 
 ghost use Rattle.wu_process.specs.Asking.{may_hold};
 
-use std::fs::File;
-use wu_arguments::{ReadFile, read_up_to, unread};
+use wu_arguments::ReadFile;
 use wu_core::Fault;
+use wu_host::read_file;
 
 /// What reads the files of the host.
 #[derive(Drop)]
@@ -28,9 +28,6 @@ impl ReadFile for HostFiles<'_> {
     ghost gives = { λ _ path most content. may_hold path most content };
 
     fn read(&self, path: &str, most: usize) -> Result<Option<Vec<u8>>, Fault> {
-        match File::open(self.rt, path) {
-            Ok(file) => read_up_to(self.rt.alloc(), file, most),
-            Err(error) => unread(&error),
-        }
+        read_file(self.rt, path, most)
     }
 }

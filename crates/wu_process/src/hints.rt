@@ -1,18 +1,17 @@
-//! What a terminal shows beside the answers: that a database was made, or why it cannot be opened, that an import came
-//! before, and that a template lets no job succeed. No clause speaks of it.
+//! What a terminal shows beside the answers: that a database was made, or why it cannot be opened, why a file cannot be
+//! read, that an import came before, and that a template lets no job succeed. No clause speaks of it.
 
 use crate::barring::why_barred;
 use crate::copy::copy_in_memory;
 use crate::database::LeftDatabase;
-use crate::expected::{Expected, expected_of};
-use crate::files::HostFiles;
 use sqlite_disk::Disk;
-use std::fs;
+use std::fs::{self, File};
 use std::io::{self, ErrorKind, Write};
 use std::time::SystemTime;
-use wu_arguments::{Asking, Order, ReadFile, read_words};
+use wu_arguments::{Asking, Order, read_words};
 use wu_cli::{Reason, Trouble};
 use wu_feed::{LONGEST_TEMPLATE, read_template};
+use wu_host::{Expected, expected_of, read_file};
 
 /// The file of a database before the words are done.
 #[derive(Drop)]
@@ -127,6 +126,43 @@ fn tell_why<D: Disk, E: Write>(
     }
 }
 
+/// Returns the paths of the files that a line or a script reads before a database is opened.
+fn files_of(order: &Order) -> [Option<&str>; 2] {
+    match order {
+        Order::Line(line) => match &line.asking {
+            Asking::Import { file, .. } => [Some(file.as_str()), template_of(order)],
+            _ => [None, None],
+        },
+        Order::Script(script) => [Some(script.file.as_str()), None],
+        _ => [None, None],
+    }
+}
+
+/// Returns why what lies at the path cannot be read, as far as that can be found out. A pipe is not opened, since it would
+/// wait for a writer.
+fn why_unreadable(rt: &HostRuntime, path: &str) -> Option<Reason> {
+    match fs::metadata(rt, path) {
+        Ok(found) if found.is_dir() => Some(Reason::Refused),
+        Ok(found) if !found.is_file() => None,
+        Ok(_) => match File::open(rt, path) {
+            Ok(_file) => None,
+            Err(error) => Some(Reason::of_file(&error)),
+        },
+        Err(error) => Some(Reason::of_file(&error)),
+    }
+}
+
+/// Shows of each file that cannot be read why not.
+fn tell_unreadable<E: Write>(rt: &HostRuntime, order: &Order, err: &mut E) {
+    for file in files_of(order) {
+        if let Some(path) = file
+            && let Some(reason) = why_unreadable(rt, path)
+        {
+            let _ = writeln!(err, "{path}: {}", reason.words());
+        }
+    }
+}
+
 /// Returns whether the line imports a file.
 fn is_import(order: &Order) -> bool {
     match order {
@@ -155,7 +191,7 @@ fn never_succeeds(rt: &HostRuntime, path: &str) -> bool {
     if !fs::metadata(rt, path).is_ok_and(|found| found.is_file()) {
         return false;
     }
-    let Ok(Some(text)) = HostFiles::new(rt).read(path, LONGEST_TEMPLATE) else {
+    let Ok(Some(text)) = read_file(rt, path, LONGEST_TEMPLATE) else {
         return false;
     };
     match read_template(rt.alloc(), text.as_slice()) {
@@ -217,6 +253,9 @@ impl Hints {
             if is_unopened(status, left) {
                 tell_why(rt, path, left, err);
             }
+        }
+        if status != 0 && left.is_none() {
+            tell_unreadable(rt, &self.order, err);
         }
         if status != 0 || !matches!(left, Some(LeftDatabase::Closed(_))) {
             return;

@@ -13,29 +13,23 @@ ghost use Rattle.wu_process.specs.Processes.{Demonstrates, EndsAsRun, RunsProces
 
 mod backup;
 mod barring;
-mod beside;
 mod check;
 mod copy;
 mod database;
-mod expected;
 mod export;
 mod files;
-mod header;
 mod hints;
 mod memory_file;
 mod new_file;
 mod opening;
 mod outputs;
-mod signs;
 
 use check::check_path;
 pub use database::LeftDatabase;
 use database::{hold_session, open_and_perform};
-use expected::Expected;
 use export::export;
 use files::HostFiles;
 use hints::Hints;
-use signs::{Cleared, Signs, Watched};
 use sqlite::FileFrom;
 use sqlite_disk::{Disk, Wary};
 use std::alloc::Global;
@@ -45,6 +39,7 @@ use wu_arguments::{Order, read_words};
 use wu_cli::{Trouble, Work, explain, lint, unheard};
 use wu_core::Fault;
 use wu_drive::demo;
+use wu_host::{Cleared, Expected, Signs, Watched};
 
 /// How a run of the program ended.
 #[derive(Drop)]

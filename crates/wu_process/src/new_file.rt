@@ -4,11 +4,11 @@ ghost use Rattle.std.specs.Prelude.{◌≡◌, false, IfOk};
 ghost use Rattle.wu_process.specs.Backups.{may_become};
 ghost use Rattle.wu_cli.specs.LogNames.{names_log};
 
-use crate::beside::is_taken_beside;
 use crate::files::HostFiles;
 use std::fs::{self, File};
 use std::io::{self, ErrorKind, Write};
 use wu_cli::{Unmade, names_log};
+use wu_host::is_taken_beside;
 
 /// What makes new files.
 pub trait MakeFile {

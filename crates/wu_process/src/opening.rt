@@ -8,7 +8,6 @@ ghost use Rattle.wu_cli.specs.LogNames.{names_log};
 ghost use Rattle.wu_process.specs.Checks.{OpensCopy};
 ghost use Rattle.wu_process.specs.Opening.{in_memory, IsEarly, IsOpenedAt, IsUnopened};
 
-use crate::beside::{may_have_log, take_log_back};
 use sqlite::{Connection, Error, ErrorCode, FileFrom, FileStore, Files, Leftover, Options, Start};
 use sqlite_disk::Disk;
 use sqlite_std_file::OpenError;
@@ -17,6 +16,7 @@ use std::fs;
 use std::hash::{BuildHasher, RandomState};
 use std::io::ErrorKind;
 use wu_cli::{Reason, Trouble, Work, names_log};
+use wu_host::{may_have_log, take_log_back};
 
 /// The fewest and the most pages that are kept in memory. A page of a new database has 4,096 bytes.
 const FEWEST_PAGES: usize = 64;

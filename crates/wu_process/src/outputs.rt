@@ -5,7 +5,6 @@ ghost use Rattle.std.specs.Prelude.{IsTrue};
 ghost use Rattle.wu_process.specs.Backups.{may_become};
 ghost use Rattle.wu_process.specs.Outputs.{DropsKept, KeepsFiles, KeepsOfPath};
 
-use crate::beside::is_no_file;
 use crate::copy::copy_files;
 use crate::files::HostFiles;
 use crate::opening::{open_copy, options};
@@ -16,6 +15,7 @@ use std::fs::{self, File};
 use std::io::{self, ErrorKind, Read, Write};
 use wu_arguments::OutputFiles;
 use wu_cli::{KeepFile, Kept, KeptCounts, Trouble, Unmade, keep_sound};
+use wu_host::is_no_file;
 
 /// Returns whether the file at the path has exactly these bytes. What cannot be read has none.
 fn has_bytes(rt: &HostRuntime, path: &str, bytes: &[u8]) -> Result<bool, Unmade> {

@@ -27,7 +27,7 @@ use Rattle.wu_drive.specs.Driving.{AnswerAll, Drives, world_after}
 use Rattle.wu_machine.specs.Sound.{IsProject}
 use Rattle.wu_machine.specs.declared.command.Answer.{Answer}
 use Rattle.wu_machine.specs.declared.command.Command.{Command}
-use Rattle.wu_passes.specs.Projects.{has_ended, IsOver, is_new, IsSessionOpen, state_of}
+use Rattle.wu_passes.specs.Projects.{has_ended, IsOver, is_new_project, IsSessionOpen, state_of}
 use Rattle.wu_passes.specs.Standing.{FaultsOnlyGrow}
 use Rattle.wu_passes.specs.declared.project.Project.{Project}
 use Rattle.wu_passes.proofs.AdoptingLemmas.{begins_over}
@@ -56,7 +56,7 @@ use Rattle.wu_stops.specs.Beginning.{HoldsWorld}
 use Rattle.wu_stops.proofs.BeginningLemmas.{goes_from}
 use Rattle.wu_process_laws.proofs.Leaving.{all_hold, begins_from, copied_each, leaves_its_work, hold_after, hold_one_more, unclosed_clean, unclosed_each}
 use Rattle.wu_process_laws.specs.Runs.{HoldAfter, ImageRefines, LeavesAsItWas, OfEachImage, Holds, HoldAfterOneMore}
-use Rattle.wu_process_laws.specs.SessionRuns.{AskedDid, AsksOfHeard, GoesOnFrom, InputDid, LeavesItsLines, LeavesSession, LineDid, LinesDid, BeginsWhereOneEnded, GoesFromFirst, GoesOnAfter, LeavesItsLinesUnclosed, EndDid}
+use Rattle.wu_process_laws.specs.SessionRuns.{AskedDid, AsksOfHeard, GoesOnFrom, InputDid, LeavesItsLines, LeavesSession, LineDid, LinesDid, BeginsWhereOneEnded, GoesFromFirst, ResumesAfter, LeavesItsLinesUnclosed, EndDid}
 
 -- ---- the machine over two lists
 
@@ -317,10 +317,10 @@ module _ {S W : Type 0} {c : calls.Ghosts Host} {s : start.Ghosts S} {g : DiskGh
       let long : length first + count ≡ length (first ++ take count all) =
       ap (λ (n : ℕ). length first + n) (sym (length-take-le count all has.drives.within)) ∙ sym (length-append first (take count all)) in
       record {
-        is_new = is_new it.old;
+        is_new = is_new_project it.old;
         out_ready = it.serves.out_ready;
         told = it.serves.told;
-        ready = subst (λ (older : Option ℕ). WritesTo contents old it.serves.out_ready (ready_line older (is_new it.old)) it.serves.told) over.version it.serves.wrote;
+        ready = subst (λ (older : Option ℕ). WritesTo contents old it.serves.out_ready (ready_line older (is_new_project it.old)) it.serves.told) over.version it.serves.wrote;
         commands = first ++ take count all;
         undone = drop count all;
         did = did;
@@ -385,7 +385,7 @@ module _ {S T W E : Type 0} {c d : calls.Ghosts Host} {s : start.Ghosts S} {t : 
   }
 
   -- or from one that may have one command more
-  goes_on_after : (world : World) (commands : List Command) (count : ℕ) → HoldAfterOneMore world commands count (image_at t) → GoesOnAfter contents told_of first second world commands count
+  goes_on_after : (world : World) (commands : List Command) (count : ℕ) → HoldAfterOneMore world commands count (image_at t) → ResumesAfter contents told_of first second world commands count
   goes_on_after world commands count it = record {
     kept = it.kept;
     within = it.within;

@@ -186,7 +186,7 @@ module _ {S T W E : Type 0} {c d : calls.Ghosts Host} {s : start.Ghosts S} {t : 
     pub session : (two : ClosedSession contents told_of second) → AreClean h two.files.log two.files.db → LeavesLines contents told_of second two.run two.files HoldAfter world
 
   -- So from the world after so many of these commands, or after one more.
-  pub record GoesOnAfter (world : World) (commands : List Command) (count : ℕ) : Type 0 where
+  pub record ResumesAfter (world : World) (commands : List Command) (count : ℕ) : Type 0 where
     pub kept : ℕ
     pub within : kept ≤ length commands
     pub has_done : count ≤ kept
@@ -209,7 +209,7 @@ module _ {S T W E : Type 0} {c d : calls.Ghosts Host} {s : start.Ghosts S} {t : 
   pub record GoesAfterStoppedRun (one : UnclosedRun contents told_of first) : Type 0 where
     pub done :
         (world : World) (it : LeavesDone g one.close.files HoldAfterOneMore (contents one.old) (contents (done_by_unclosed contents told_of first one).runs.mid) world (done_by_unclosed contents told_of first one).work first.status)
-        → ∥ GoesOnAfter world (commands_of_work world (done_by_unclosed contents told_of first one).work it.ran) it.count ∥₁
+        → ∥ ResumesAfter world (commands_of_work world (done_by_unclosed contents told_of first one).work it.ran) it.count ∥₁
     pub kept : GoesFromFirst one.close.files (contents one.old) (contents (done_by_unclosed contents told_of first one).runs.mid)
 
   -- The second run went on from the world that a session left: the one after what its lines did, or the one before it.
@@ -223,7 +223,7 @@ module _ {S T W E : Type 0} {c d : calls.Ghosts Host} {s : start.Ghosts S} {t : 
   pub record GoesAfterStoppedSession (one : UnclosedSession contents told_of first) : Type 0 where
     pub done :
         (world : World) (it : LeavesSession g one.close.files HoldAfterOneMore contents may_hold (MakesExport may_become may_become) one.run.session.path world one.run.old one.run.new one.run.in_old one.run.in_new)
-        → ∥ GoesOnAfter world (it.commands ++ it.undone) (length it.commands) ∥₁
+        → ∥ ResumesAfter world (it.commands ++ it.undone) (length it.commands) ∥₁
     pub kept : GoesFromFirst one.close.files (contents one.run.old) (contents one.run.new)
 
   -- If the second run begins over what a crash left of the first, it goes on from there, whichever of them is a session.

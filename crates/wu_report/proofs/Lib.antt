@@ -1,6 +1,7 @@
 mod DayLemmas
 mod HexLemmas
 mod LineLemmas
+mod LookLemmas
 pub mod MarkLemmas
 pub mod MarkedSkips
 pub mod MarkedLines

@@ -326,8 +326,8 @@ no_result host = record (back host outcome.ValidateError []) { validate_state = 
 abbrev pub one_and_a_result : Instance → List Instance → Workunit
 one_and_a_result one more = job default_parameters (one ∷ success h2 aa validate.Init ∷ more)
 
-abbrev pub two_of : Instance → Instance → Workunit
-two_of one other = job default_parameters (one ∷ other ∷ [])
+abbrev pub holding_two : Instance → Instance → Workunit
+holding_two one other = job default_parameters (one ∷ other ∷ [])
 
 -- The workunit is decided, and this instance was reported after that.
 abbrev pub after_decision : Instance → Workunit

@@ -11,7 +11,7 @@ use Rattle.wu_core.specs.declared.states.ValidateState.TheVariants as validate
 use Rattle.wu_rules.specs.Instances.{is_open_verdict, is_over, is_viable}
 use Rattle.wu_rules.specs.Validation.{checked, grants, is_empty, is_judged, is_judged_where, is_to_validate, refused, validated}
 use Rattle.wu_rules.proofs.Refusing.{refused_not_judged}
-use Rattle.wu_rules_laws.specs.Laws.{IsRefused, IsRightGrantIn, RefusesEmpty, verdict_at}
+use Rattle.wu_rules_laws.specs.Laws.{IsValidateError, IsRightGrantIn, RefusesEmpty, verdict_at}
 use Rattle.wu_rules_laws.proofs.Changed.{and_false}
 use Rattle.wu_rules_laws.proofs.Checking.{checked_canonical, checked_in, concluded_unlooked, kept_in, refused_in, stands_checked, validated_is, validated_unlooked}
 use Rattle.wu_rules_laws.proofs.Choosing.{chooses}
@@ -46,7 +46,7 @@ module _ (w : Workunit) where
   refused_then i = refused_not_judged (is_none (checked w).canonical) i
 
   refuses : (n : ℕ) (i : Instance) → is_to_validate w ≡ true → slice_get w.instances n ≡ Some i → is_judged w i ≡ true → i.output ≡ []
-      → IsRefused i (slice_get (validated w).instances n)
+      → IsValidateError i (slice_get (validated w).instances n)
   refuses n i looked here judged none =
       let empty : is_empty i.output ≡ true = ap is_empty none in
       let is : checked_in w i ≡ refused i = refused_in w i looked (and_from (is_judged w i) (is_empty i.output) judged empty) in

@@ -128,14 +128,14 @@ verdict_at w n = option_map (λ i. i.validate_state) (slice_get w.instances n)
 -- ---- empty outputs
 
 -- The instance is refused: an error of validation, and INVALID. All else of it stays.
-abbrev pub IsRefused : Instance → Option Instance → Type 0
-IsRefused i new = new ≡ Some (record i { outcome = outcome.ValidateError; validate_state = validate.Invalid })
+abbrev pub IsValidateError : Instance → Option Instance → Type 0
+IsValidateError i new = new ≡ Some (record i { outcome = outcome.ValidateError; validate_state = validate.Invalid })
 
 -- If the validator looks at a workunit, it refuses each judged success with an empty output, before the decision and
 -- after it. No empty output is chosen, made VALID or granted.
 pub record RefusesEmpty (w : Workunit) : Type 0 where
   pub refused : (n : ℕ) (i : Instance) → is_to_validate w ≡ true → slice_get w.instances n ≡ Some i
-      → is_judged w i ≡ true → i.output ≡ [] → IsRefused i (slice_get (validated w).instances n)
+      → is_judged w i ≡ true → i.output ≡ [] → IsValidateError i (slice_get (validated w).instances n)
   pub not_chosen : (n : ℕ) (i : Instance) → w.canonical ≡ None → (validated w).canonical ≡ Some n
       → slice_get w.instances n ≡ Some i → i.output ≢ []
   pub not_valid : (n : ℕ) (i : Instance) → slice_get w.instances n ≡ Some i → is_open_verdict i.validate_state ≡ true

@@ -20,7 +20,7 @@ ghost use Rattle.wu_rules.specs.Waking.{wake};
 ghost use Rattle.wu_rules_laws.specs.Marking.{wakes_at};
 ghost use Rattle.wu_rules.specs.Assimilation.{assimilated, emptied, is_purgeable};
 ghost use Rattle.wu_rules.specs.Examples.{noon, sending, due, a_second_late, reporting, h1, h2, h3, h4, aa, an_hour_late, credit, in_class, ready, masked, cancelled_mask, lost, three_classed};
-ghost use Rattle.wu_rules.specs.Examples.{new_job, two_unsent, one_out, one_lost, one_back, one_late, one_failed, two_differ, two_doubted, third_unsent, third_agrees, second_chosen, two_of_three, two_of_three_chosen, two_of_four, two_of_four_doubted, one_of_one, one_of_one_chosen, empty, no_result, one_and_a_result, two_of, after_decision, after_all, four_failed, ended_by_errors, last_out, ended_by_total, three_differ, three_doubted, one_left, ended_by_successes, two_agree, first_chosen, second_may_go, second_out_and, late_success, third_after_all, two_unneeded, two_may_go, one_may_go, one_gone_since, one_emptied};
+ghost use Rattle.wu_rules.specs.Examples.{new_job, two_unsent, one_out, one_lost, one_back, one_late, one_failed, two_differ, two_doubted, third_unsent, third_agrees, second_chosen, two_of_three, two_of_three_chosen, two_of_four, two_of_four_doubted, one_of_one, one_of_one_chosen, empty, no_result, one_and_a_result, holding_two, after_decision, after_all, four_failed, ended_by_errors, last_out, ended_by_total, three_differ, three_doubted, one_left, ended_by_successes, two_agree, first_chosen, second_may_go, second_out_and, late_success, third_after_all, two_unneeded, two_may_go, one_may_go, one_gone_since, one_emptied};
 
 /// Computes that a new workunit gets its two instances at once, and no more.
 pub fn makes_instances()
@@ -231,10 +231,10 @@ pub fn refuses_empty_outputs()
     ensures made { transitioned (one_and_a_result (no_result h1) []) sending
         ≡ one_and_a_result (no_result h1) (fresh ∷ []) }
     // Two empty outputs are both refused.
-    ensures both { validated (two_of (empty h1) (empty h2))
-        ≡ two_of (no_result h1) (no_result h2) }
+    ensures both { validated (holding_two (empty h1) (empty h2))
+        ≡ holding_two (no_result h1) (no_result h2) }
     // They count as two errors.
-    ensures errors { errors (two_of (no_result h1) (no_result h2)) ≡ 2 }
+    ensures errors { errors (holding_two (no_result h1) (no_result h2)) ≡ 2 }
 {}
 
 /// Computes that an empty output after the decision is refused, even if the canonical output was deleted.

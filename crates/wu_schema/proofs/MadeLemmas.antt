@@ -6,7 +6,7 @@ use Rattle.wu_schema.proofs.StandsLemmas.{but_one, is_there}
 use Rattle.wu_schema.proofs.Parts.{none_in_order, HasParts, Holds, is_part, keeps_but, placed, rows_stand, same_part, table_of}
 use Rattle.wu_schema.specs.declared.table.ProjectTable.{ProjectTable}
 use Rattle.wu_schema.specs.declared.table.ProjectTable.TheVariants as the_table
-use Rattle.wu_schema.specs.ProjectTables.{IsTableOf, name_of}
+use Rattle.wu_schema.specs.ProjectTables.{IsTableOf, table_name}
 use Rattle.wu_schema.proofs.StandsOver.{Grows, ByBytes, grows_same, grows_both, still_named, still_compares, tables_are}
 use Rattle.wu_schema.proofs.FreeLemmas.{all_before}
 use Rattle.wu_schema.proofs.CreateEffect.{index_low, own_table, tree_apart, unguarded}
@@ -149,10 +149,10 @@ module _ (old end new : Database) (h : MakesAll old end project_tables) (put : P
   trees the_table.HostClass = next_tree h.2.2.2.2.2.2.0.schema
   trees the_table.WorkunitClass = next_tree h.2.2.2.2.2.2.2.0.schema
 
-  made : (p : ProjectTable) → IsMadeIn end (name_of p) (table_of trees p)
+  made : (p : ProjectTable) → IsMadeIn end (table_name p) (table_of trees p)
   made p = by p (all_in old end project_tables h)
     where
-      by : (p : ProjectTable) → AreMadeIn old end project_tables h → IsMadeIn end (name_of p) (table_of trees p)
+      by : (p : ProjectTable) → AreMadeIn old end project_tables h → IsMadeIn end (table_name p) (table_of trees p)
       by the_table.Project all = all.0
       by the_table.Workunit all = all.1.0
       by the_table.Result all = all.1.1.0

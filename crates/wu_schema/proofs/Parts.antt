@@ -8,7 +8,7 @@ use Rattle.wu_schema.proofs.Words.{AllByRecursion, IsPermutation-refl, IsTable, 
 use Rattle.sqlite_trees.specs.declared.store.Shape.TheVariants as shape
 use Rattle.wu_schema.specs.Refines.{HasRows, LacksClasses, host_of}
 use Rattle.wu_schema.specs.Tables.{IsClassedVersion}
-use Rattle.wu_schema.specs.ProjectTables.{IsTableOf, name_of, table_at}
+use Rattle.wu_schema.specs.ProjectTables.{IsTableOf, table_name, table_at}
 use Rattle.wu_schema.specs.declared.table.ProjectTable.{ProjectTable}
 use Rattle.wu_schema.specs.declared.table.ProjectTable.TheVariants as the_table
 use Rattle.wu_schema.proofs.QuietLemmas.{same_some}
@@ -38,7 +38,7 @@ Holds the_table.WorkunitClass rows world = ListsAll rows (map stored_class world
 
 -- the tables of the parts that the version has
 abbrev pub HasParts : ℕ → Schema → ProjectTrees → Type 0
-HasParts version schema t = (p : ProjectTable) → IsTableOf p version → HasNamed schema (name_of p) (table_of t p)
+HasParts version schema t = (p : ProjectTable) → IsTableOf p version → HasNamed schema (table_name p) (table_of t p)
 
 abbrev pub parts_there : (db : Database) (world : World) (s : Refines db world) → HasParts world.version db.schema s.trees
 parts_there db world s = s.tables.each
@@ -102,18 +102,18 @@ by_name name =
     else if bytes_eq name (codes "host_class") then the_table.HostClass
     else the_table.WorkunitClass
 
-found_again : (p : ProjectTable) → by_name (name_of p) ≡ p
+found_again : (p : ProjectTable) → by_name (table_name p) ≡ p
 found_again the_table.Project = refl
 found_again _ = refl
 
 -- whether it is this part
 abbrev pub is_part : ProjectTable → ProjectTable → Bool
-is_part p q = bytes_eq (name_of p) (name_of q)
+is_part p q = bytes_eq (table_name p) (table_name q)
 
 pub same_part : (p q : ProjectTable) → is_part p q ≡ true → p ≡ q
-same_part p q same = sym (found_again p) ∙ ap by_name ((bytes_eq-Decides (name_of p) (name_of q)).0 same) ∙ found_again q
+same_part p q same = sym (found_again p) ∙ ap by_name ((bytes_eq-Decides (table_name p) (table_name q)).0 same) ∙ found_again q
 
-named : (t : ProjectTrees) (p : ProjectTable) → (table_of t p).name ≡ name_of p
+named : (t : ProjectTrees) (p : ProjectTable) → (table_of t p).name ≡ table_name p
 named t the_table.Project = refl
 named t _ = refl
 
@@ -159,7 +159,7 @@ keeps_both version t old mid new a b first second q is_in off = let parts = eith
 
 module _ (version : ℕ) (old : Database) (t : ProjectTrees) (there : HasParts version old.schema t) where
   pub stands_in : (p : ProjectTable) → IsTableOf p version → Has old.schema.tables (table_of t p)
-  stands_in p is_in = is_there old.schema (name_of p) (table_of t p) (there p is_in)
+  stands_in p is_in = is_there old.schema (table_name p) (table_of t p) (there p is_in)
 
   child_there : (p : ProjectTable) (c : ℕ) → IsTableOf p version → child_column p ≡ Some c → IsChild old.schema (table_of t p) c
   child_there p c is_in is = record { listed = stands_in p is_in; owns = (there p is_in).2; refers = references_in t p ∙ ap references_by is }
@@ -168,8 +168,8 @@ module _ (version : ℕ) (old : Database) (t : ProjectTrees) (there : HasParts v
   pub apart : (p q : ProjectTable) → IsTableOf p version → IsTableOf q version → is_part p q ≡ false → t q ≢ t p
   apart p q in_p in_q other same =
       let e : table_of t p ≡ table_of t q = same_some (sym (there p in_p).1.stands ∙ ap (λ n. find (λ (u : Table). u.tree == n) old.schema.tables) (placed t p ∙ sym same ∙ sym (placed t q)) ∙ (there q in_q).1.stands) in
-      let one : name_of p ≡ name_of q = sym (named t p) ∙ ap (λ (u : Table). u.name) e ∙ named t q in
-      absurd (let f = sym ((bytes_eq-Decides (name_of p) (name_of q)).1 one) ∙ other in cc)
+      let one : table_name p ≡ table_name q = sym (named t p) ∙ ap (λ (u : Table). u.name) e ∙ named t q in
+      absurd (let f = sym ((bytes_eq-Decides (table_name p) (table_name q)).1 one) ∙ other in cc)
 
   table_apart : (p q : ProjectTable) → IsTableOf p version → IsTableOf q version → is_part p q ≡ false → (table_of t q).tree ≢ t p
   table_apart p q in_p in_q other same = apart p q in_p in_q other (sym (placed t q) ∙ same)

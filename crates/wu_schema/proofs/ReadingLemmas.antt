@@ -25,7 +25,7 @@ use Rattle.wu_core.specs.declared.states.ServerState.{ServerState}
 use Rattle.wu_core.specs.declared.states.ValidateState.{ValidateState}
 use Rattle.wu_schema.specs.Stored.{parameter_cells}
 use Rattle.wu_schema.specs.Restoring.{Restores}
-use Rattle.wu_schema.specs.Reading.{bare_instance_row, IsBareInstance, IsStoredImport, file_delete_cell, outcome_cell, server_state_cell, stored_import_row, validate_state_cell, verdicts_cell, moment_cells, state_cells, columns, progress_cells, IsProgress, mask_cell, HasMoments, host_row, IsStoredHost, IsStoredHostClass}
+use Rattle.wu_schema.specs.Reading.{bare_instance_row, IsBareInstance, HasStoredVerdicts, file_delete_cell, outcome_cell, server_state_cell, stored_import_row, validate_state_cell, verdicts_cell, moment_cells, state_cells, columns, progress_cells, IsProgress, mask_cell, HasMoments, host_row, IsStoredHost, IsStoredHostClass}
 
 -- a value that can't be read is none that is stored so
 pub unread : {T C : Type 0} (stored_as : T → C) (IsValue : T → Type 0) (stored : C) (fault : Fault)
@@ -377,14 +377,14 @@ module _ (n : ℕ) (name : List ℕ) (mask : ErrorMask) (canonical : Option ℕ)
 -- a row whose columns read as these is that of this import alone
 pub import_row_read : (kind : ImportKind) (row : Row) (template content verdicts : List ℕ) (first : ℕ) → length row ≡ 4 → Restores Blob (λ _. ⊤) (column row 0) (Ok template) → Restores Blob (λ _. ⊤) (column row 1) (Ok content)
     → Restores number (λ _. ⊤) (column row 2) (Ok first) → Restores verdicts_cell (AreVerdicts kind) (column row 3) (Ok verdicts)
-    → Restores stored_import_row (IsStoredImport kind) row (Ok (record { template = template; content = content; first_number = first; verdicts = verdicts }))
+    → Restores stored_import_row (HasStoredVerdicts kind) row (Ok (record { template = template; content = content; first_number = first; verdicts = verdicts }))
 import_row_read kind row template content verdicts first long template_is content_is first_is verdicts_are =
     read_as (sym whole ∙ (λ i. template_is.value.0 i ∷ content_is.value.0 i ∷ first_is.value.0 i ∷ verdicts_are.value.0 i ∷ []), verdicts_are.value.1) only
   where
     whole : column row 0 ∷ column row 1 ∷ column row 2 ∷ column row 3 ∷ [] ≡ row
     whole = subst (λ k. map (column row) (range_with_len 0 k) ≡ row) long (as_columns row)
 
-    only : (s : StoredImport) → IsStoredImport kind s → row ≡ stored_import_row s → ◌≡◌ {A = StoredImport} (record { template = template; content = content; first_number = first; verdicts = verdicts }) s
+    only : (s : StoredImport) → HasStoredVerdicts kind s → row ≡ stored_import_row s → ◌≡◌ {A = StoredImport} (record { template = template; content = content; first_number = first; verdicts = verdicts }) s
     only s is same =
         let p = ok_is template s.template (template_is.found s.template tt (ap (λ r. column r 0) same)) in
         let q = ok_is content s.content (content_is.found s.content tt (ap (λ r. column r 1) same)) in

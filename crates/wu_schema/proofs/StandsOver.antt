@@ -4,7 +4,7 @@ use Rattle.wu_schema.specs.Made.{KeepsOthers}
 use Rattle.wu_schema.proofs.StandsLemmas.{is_there}
 use Rattle.wu_schema.proofs.Parts.{HasParts, table_of, parts_there, parts_hold, Holds, kept, stands_in, rows_stand}
 use Rattle.wu_schema.specs.declared.table.ProjectTable.TheVariants as the_table
-use Rattle.wu_schema.specs.ProjectTables.{name_of}
+use Rattle.wu_schema.specs.ProjectTables.{table_name}
 
 -- what was there is there still, by its name and in a tree of its own, and no new index guards a table that was there
 pub record Grows (old new : Database) : Type 0 where
@@ -54,7 +54,7 @@ module _ (old new : Database) (grows : Grows old new) where
       let stands = stands_in world.version old s.trees there in
       record {
         trees = s.trees;
-        tables = tables_are world.version new.schema s.trees (λ p is_in. still_named (name_of p) (table_of s.trees p) (there p is_in)) (still_compares (s.trees the_table.Host) (stands the_table.Host tt) s.tables.by_bytes);
+        tables = tables_are world.version new.schema s.trees (λ p is_in. still_named (table_name p) (table_of s.trees p) (there p is_in)) (still_compares (s.trees the_table.Host) (stands the_table.Host tt) s.tables.by_bytes);
         rows = rows_stand new s.trees world (λ p is_in. subst (λ rs. Holds p rs world) (sym (kept world.version old s.trees there new p (grows.keeps.tables (table_of s.trees p) (stands p is_in)).1)) (parts_hold old world s p is_in)) s.rows.classless;
         sound = sound;
       }

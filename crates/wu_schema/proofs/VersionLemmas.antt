@@ -9,7 +9,7 @@ use Rattle.sqlite.specs.State.{ShowsRows}
 use Rattle.wu_core.specs.declared.fault.Fault.TheVariants.{Broken, Memory}
 use Rattle.wu_schema.specs.Faults.{IsStoreFault}
 use Rattle.std.specs.Prelude.{◌≢◌}
-use Rattle.wu_schema.specs.Versions.{IsAnswered, IsMissing, project_cells, rows_of_project, AreOfVersion, TellsMissing, LacksProject}
+use Rattle.wu_schema.specs.Versions.{IsVersionAnswer, IsMissing, project_cells, rows_of_project, AreOfVersion, TellsMissing, LacksProject}
 use Rattle.wu_schema.proofs.AnswerLemmas.{answers_are, meeting, showing}
 use Rattle.wu_schema.proofs.CallLemmas.{serves_after}
 use Rattle.wu_schema.proofs.AnswerLemmas.{shown_answers}
@@ -116,14 +116,14 @@ version_missing old new e h m = (m.0, query_text version_text version_selects []
 
 -- ---- what the question is answered with
 
-pub version_answered : (old new : State) (rows : List Row) → Shown version_text [] old new rows → IsAnswered old.now rows
+pub version_answered : (old new : State) (rows : List Row) → Shown version_text [] old new rows → IsVersionAnswer old.now rows
 unfolding Shown
 version_answered old new rows h =
     let none = shows_none old.now.schema version_text version_selects h.0 h.1.is in
     let read = subst (λ r. ShowsRows old new version_text h.0 (timed [] h.0.formats h.1.now) rows r) none h.2 in
     (h.0, h.1.is, read.0, read.1, timed [] h.0.formats h.1.now, read.2)
 
-pub answered_there : (db : Database) (rows : List Row) → IsAnswered db rows → ¬ LacksProject db.schema
+pub answered_there : (db : Database) (rows : List Row) → IsVersionAnswer db rows → ¬ LacksProject db.schema
 answered_there db rows it lacks = absurd (let no = sym lacks.1 ∙ it.1 in cc)
 
 -- ---- no table of the name

@@ -12,16 +12,16 @@ use Rattle.wu_schema.specs.declared.table.ProjectTable.{ProjectTable}
 use Rattle.wu_schema.specs.declared.table.ProjectTable.TheVariants.{Project, Workunit, Result, Grant, Host, Archived, Import, HostClass, WorkunitClass}
 
 -- The name of the table.
-abbrev pub name_of : ProjectTable → List ℕ
-name_of Project = codes "project"
-name_of Workunit = codes "workunit"
-name_of Result = codes "result"
-name_of Grant = codes "credit_grant"
-name_of Host = codes "host"
-name_of Archived = codes "archived"
-name_of Import = codes "import"
-name_of HostClass = codes "host_class"
-name_of WorkunitClass = codes "workunit_class"
+abbrev pub table_name : ProjectTable → List ℕ
+table_name Project = codes "project"
+table_name Workunit = codes "workunit"
+table_name Result = codes "result"
+table_name Grant = codes "credit_grant"
+table_name Host = codes "host"
+table_name Archived = codes "archived"
+table_name Import = codes "import"
+table_name HostClass = codes "host_class"
+table_name WorkunitClass = codes "workunit_class"
 
 -- The table in any tree.
 abbrev pub table_at : ProjectTable → ℕ → Table
@@ -63,6 +63,6 @@ in_order = Project ∷ Workunit ∷ Result ∷ Grant ∷ Host ∷ Archived ∷ I
 
 -- All tables of a version except the queue are there, whatever else is there.
 pub record HasTables (version : ℕ) (schema : Schema) (trees : ProjectTrees) : Type 0 where
-  pub each : (table : ProjectTable) → IsTableOf table version → HasNamed schema (name_of table) (table_at table (trees table))
+  pub each : (table : ProjectTable) → IsTableOf table version → HasNamed schema (table_name table) (table_at table (trees table))
   -- Each unique index on only the names of hosts compares their bytes.
   pub by_bytes : (i : Index) → Has schema.indexes i → guards i (host_at (trees Host)) ≡ true → i.columns ≡ 1 ∷ [] → (first_key i.order).collation ≡ Binary

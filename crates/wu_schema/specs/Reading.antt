@@ -102,8 +102,8 @@ abbrev pub stored_import_row : StoredImport → Row
 stored_import_row import =
     Blob import.template ∷ Blob import.content ∷ number import.first_number ∷ Text (verdict_digits import.verdicts) ∷ []
 
-abbrev pub IsStoredImport : ImportKind → StoredImport → Type 0
-IsStoredImport kind import = AreVerdicts kind import.verdicts
+abbrev pub HasStoredVerdicts : ImportKind → StoredImport → Type 0
+HasStoredVerdicts kind import = AreVerdicts kind import.verdicts
 
 -- The fault is that the row is no value of its type, or out of memory.
 abbrev pub IsReadFault : Fault → Type 0

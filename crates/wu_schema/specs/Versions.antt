@@ -86,19 +86,19 @@ abbrev pub HasVersion : (db : Database) → HasProject db.schema → ℕ → Typ
 HasVersion db has version = (1 ≤ version) × AreOfVersion (rows_of_project db has) version
 
 -- The rows are those of the project, in some order.
-abbrev pub ShowsProject : {A : Type 0} → Database → Vec Row A → Type 0
-ShowsProject db rows = (has : HasProject db.schema) → IsPermutation (rows_of_project db has) rows.items
+abbrev pub ShowsProjectRows : {A : Type 0} → Database → Vec Row A → Type 0
+ShowsProjectRows db rows = (has : HasProject db.schema) → IsPermutation (rows_of_project db has) rows.items
 
 -- The question is answered with these rows, by a table `project` or by something else of its name.
-abbrev pub IsAnswered : Database → List Row → Type 0
-IsAnswered db rows =
+abbrev pub IsVersionAnswer : Database → List Row → Type 0
+IsVersionAnswer db rows =
     (c : Compiled) × (understood db.schema version_text ≡ Ok c)
     × (source : Database) × IsSourceOf (reads_listing db.schema version_text) db source
     × (given : Row) × Reads c.command source given rows
 
 -- The question is answered with the one row of a project of this version.
 abbrev pub ShowsVersion : Database → ℕ → Type 0
-ShowsVersion db version = (rows : List Row) × IsAnswered db rows × AreOfVersion rows version
+ShowsVersion db version = (rows : List Row) × IsVersionAnswer db rows × AreOfVersion rows version
 
 -- Over a project and without a limit on steps, only `Memory` or `Broken` refuses the question.
 abbrev pub FailsToAsk : Option ℕ → Database → Error → Type 0

@@ -5,15 +5,12 @@ ghost use Rattle.wu_schema.specs.Classes.{MakesClasses};
 ghost use Rattle.wu_schema.specs.Made.{MakesTables, class_tables};
 
 use crate::transaction::execute;
+use crate::{created, host_class_columns, workunit_class_columns};
 use sqlite::{Alter, Error, Transaction};
 
-pub const CREATE_HOST_CLASS: &str = "CREATE TABLE host_class (
-  host TEXT PRIMARY KEY NOT NULL,
-  class INTEGER NOT NULL) STRICT";
+pub const CREATE_HOST_CLASS: &str = host_class_columns!(created "host_class" "":);
 
-pub const CREATE_WORKUNIT_CLASS: &str = "CREATE TABLE workunit_class (
-  workunit INTEGER PRIMARY KEY REFERENCES workunit (number) ON DELETE CASCADE,
-  class INTEGER NOT NULL) STRICT";
+pub const CREATE_WORKUNIT_CLASS: &str = workunit_class_columns!(created "workunit_class" "":);
 
 /// Makes the tables of the classes of hosts and of workunits.
 pub fn create_classes<S: Alter>(tx: &mut Transaction<'_, S>) -> Result<(), Error>

@@ -11,6 +11,7 @@ mod columns;
 mod creation;
 mod fault;
 pub mod laws;
+mod lists;
 mod queue;
 pub mod rows;
 mod table;

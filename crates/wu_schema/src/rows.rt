@@ -11,7 +11,7 @@ ghost use Rattle.wu_core.specs.Parameters.{IsParameters};
 ghost use Rattle.wu_core.specs.World.{last_skip};
 ghost use Rattle.wu_schema.specs.Stored.{archived_cells, class_cells, instance_row, number, number_or_null, text_or_null, parameter_cells, verdict_digits, workunit_row};
 ghost use Rattle.wu_schema.specs.Restoring.{Restores};
-ghost use Rattle.wu_schema.specs.Reading.{assimilate_cell, kind_cell, bare_instance_row, IsBareInstance, file_delete_cell, mask_cell, outcome_cell, server_state_cell, validate_state_cell, verdicts_cell, columns, progress_cells, IsProgress, IsStoredImport, stored_import_row, moment_cells, state_cells, HasMoments, host_row, IsStoredHost, IsStoredHostClass};
+ghost use Rattle.wu_schema.specs.Reading.{assimilate_cell, kind_cell, bare_instance_row, IsBareInstance, file_delete_cell, mask_cell, outcome_cell, server_state_cell, validate_state_cell, verdicts_cell, columns, progress_cells, IsProgress, HasStoredVerdicts, stored_import_row, moment_cells, state_cells, HasMoments, host_row, IsStoredHost, IsStoredHostClass};
 ghost use Rattle.wu_core.specs.Storable.{IsOutput, IsInput, IsMoment, IsName, IsPlace, IsStoredWorkunit, AreVerdicts, IsNextNumber, IsClass, IsDeadline, IsHost, IsStoredArchived, IsStoredInstance};
 
 use crate::columns::{number_at, read_column};
@@ -557,7 +557,7 @@ pub struct StoredImport {
 pub fn import_from(alloc: Global, kind: ImportKind, row: &Row) -> Result<StoredImport, Fault>
     // A row of template, content, first number and valid digits is read as that import, or out of
     // memory; any other row is refused.
-    ensures { Restores stored_import_row (IsStoredImport kind) row.now result }
+    ensures { Restores stored_import_row (HasStoredVerdicts kind) row.now result }
 {
     if row.column_count() != 4 {
         return Err(Fault::NotAProject);

@@ -5,7 +5,7 @@ ghost use Rattle.wu_core.specs.declared.fault.Fault.TheVariants.{Memory, NotAPro
 ghost use Rattle.wu_schema.specs.Asking.{Asks, ServesUnlessFailed};
 ghost use Rattle.wu_schema.specs.Calls.{BreaksAfter, AsksOnly, OnAnswer, OnFault, ServesAfter};
 ghost use Rattle.wu_schema.specs.Faults.{fault_of, IsStoreFault};
-ghost use Rattle.wu_schema.specs.Versions.{AnswersVersion, FailsToAsk, IsAnswered, IsMissingOnly, IsOtherFault, IsVersionIn, ReadsVersion, RefusesVersion, ShowsProject, TellsAbsence, TellsMissing};
+ghost use Rattle.wu_schema.specs.Versions.{AnswersVersion, FailsToAsk, IsVersionAnswer, IsMissingOnly, IsOtherFault, IsVersionIn, ReadsVersion, RefusesVersion, ShowsProjectRows, TellsAbsence, TellsMissing};
 
 use crate::columns::version_from;
 use crate::fault::fault_of;
@@ -19,12 +19,12 @@ fn project_rows<S: Alter>(conn: &mut Connection<S>) -> Result<Vec<Row>, Error>
     ensures reads { AsksOnly S.Store conn.old conn.new result }
     ensures serves { ServesAfter S.Store conn.old conn.new result }
     // Over a table `project` with its columns, the rows are those of the table, in some order.
-    ensures answers { OnAnswer S.Store conn.old conn.new result ShowsProject }
+    ensures answers { OnAnswer S.Store conn.old conn.new result ShowsProjectRows }
     // Over such a table with no limit on steps, an error counts as `Memory` or `Broken`.
     ensures told { OnFault S.Store conn.old conn.new result (FailsToAsk conn.old.step_limit) }
     // The rows are the answer of the store, from the table or from what else has its name.
     ensures shown { OnAnswer S.Store conn.old conn.new result
-        (λ db rows. IsAnswered db rows.items) }
+        (λ db rows. IsVersionAnswer db rows.items) }
     // Where no project is, the error is a missing table or column, or counts as `Memory` or
     // `Broken`.
     ensures absent { OnFault S.Store conn.old conn.new result TellsAbsence }

@@ -8,7 +8,7 @@ use Rattle.wu_schema.proofs.SelectLemmas.{Asked, Fits, IsTyped, parsed_of, selec
 use Rattle.wu_schema.proofs.ToldLemmas.{asked_told}
 use Rattle.wu_schema.proofs.Parts.{parts_there}
 use Rattle.wu_schema.specs.declared.table.ProjectTable.{ProjectTable}
-use Rattle.wu_schema.specs.ProjectTables.{IsTableOf, table_at, name_of}
+use Rattle.wu_schema.specs.ProjectTables.{IsTableOf, table_at, table_name}
 use Rattle.wu_core.specs.declared.fault.Fault.TheVariants.{Broken, Memory}
 pub use Rattle.wu_schema.proofs.AskingLemmas.{asks_fault, asks_made, asks_none, asks_stands, asks_then}
 use Rattle.wu_store.specs.Answers.{ShowsLast}
@@ -210,17 +210,17 @@ pub record IsQuestion (text : List ℕ) (params : Row) (Over : Database → Worl
   pub told : (old new : State) (e : Error) → FailsToQuery text params old new e → (world : World) → Over old.now world → old.step_limit ≡ None → IsFailure (fault_of e)
 
 -- one that fits its table
-module _ (p : ProjectTable) (q : Asked) (fits : (tree : ℕ) → Fits (name_of p) (table_at p tree) q) (params : Row) (few : length params ≡ length q.parameters) (typed : (tree : ℕ) → IsTyped (name_of p) (table_at p tree) q params) where
+module _ (p : ProjectTable) (q : Asked) (fits : (tree : ℕ) → Fits (table_name p) (table_at p tree) q) (params : Row) (few : length params ≡ length q.parameters) (typed : (tree : ℕ) → IsTyped (table_name p) (table_at p tree) q params) where
   pub question_over : (Over : Database → World → Type 0) → ((db : Database) (world : World) → Over db world → Refines db world × IsTableOf p world.version) → IsQuestion q.text params Over
   question_over Over there = record {
-    select = record { parsed = parsed_of (name_of p) (table_at p 0) q; select = select_of (name_of p) (table_at p 0) q; read = (fits 0).read; is = refl };
+    select = record { parsed = parsed_of (table_name p) (table_at p 0) q; select = select_of (table_name p) (table_at p 0) q; read = (fits 0).read; is = refl };
     told = λ old new e h world stood unlimited.
         let (s, is_in) = there old.now world stood in
         let has = parts_there old.now world s p is_in in
-        asked_told (name_of p) has.0 _ q (fits _) old new has.1 params e few (typed _) unlimited h;
+        asked_told (table_name p) has.0 _ q (fits _) old new has.1 params e few (typed _) unlimited h;
   }
 
-pub question : (p : ProjectTable) → ((version : ℕ) → IsTableOf p version) → (q : Asked) → ((tree : ℕ) → Fits (name_of p) (table_at p tree) q) → (params : Row) → length params ≡ length q.parameters → ((tree : ℕ) → IsTyped (name_of p) (table_at p tree) q params) → IsQuestion q.text params Refines
+pub question : (p : ProjectTable) → ((version : ℕ) → IsTableOf p version) → (q : Asked) → ((tree : ℕ) → Fits (table_name p) (table_at p tree) q) → (params : Row) → length params ≡ length q.parameters → ((tree : ℕ) → IsTyped (table_name p) (table_at p tree) q params) → IsQuestion q.text params Refines
 question p in_p q fits params few typed = question_over p q fits params few typed Refines (λ db world s. (s, in_p world.version))
 
 module _ {S : Type 0} {text : List ℕ} {params : Row} {Over : Database → World → Type 0} (g : Ghosts S) (it : IsQuestion text params Over) (old new : Held S) (given : Row) (same : given ≡ params) where

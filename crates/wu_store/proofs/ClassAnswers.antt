@@ -8,7 +8,7 @@ use Rattle.wu_core.proofs.ClassLemmas.{Before}
 use Rattle.wu_schema.specs.Tables.{IsClassedVersion}
 use Rattle.wu_schema.specs.declared.table.ProjectTable.{ProjectTable}
 use Rattle.wu_schema.specs.declared.table.ProjectTable.TheVariants as the_table
-use Rattle.wu_schema.specs.ProjectTables.{IsTableOf, name_of, table_at}
+use Rattle.wu_schema.specs.ProjectTables.{IsTableOf, table_name, table_at}
 use Rattle.wu_schema.proofs.RowLemmas.{one_test}
 use Rattle.wu_schema.proofs.SelectLemmas.{Asked, Fits, IsTyped}
 use Rattle.wu_store.specs.Answers.{numbered}
@@ -23,7 +23,7 @@ use Rattle.wu_store.specs.declared.texts.TheConstants.{SELECT_CLASS, SELECT_HOST
 -- ---- a question for a class, whole
 
 -- one that fits its table
-pub class_question : (p : ProjectTable) → ((version : ℕ) → IsClassedVersion version → IsTableOf p version) → (q : Asked) → ((tree : ℕ) → Fits (name_of p) (table_at p tree) q) → (params : Row) → length params ≡ length q.parameters → ((tree : ℕ) → IsTyped (name_of p) (table_at p tree) q params)
+pub class_question : (p : ProjectTable) → ((version : ℕ) → IsClassedVersion version → IsTableOf p version) → (q : Asked) → ((tree : ℕ) → Fits (table_name p) (table_at p tree) q) → (params : Row) → length params ≡ length q.parameters → ((tree : ℕ) → IsTyped (table_name p) (table_at p tree) q params)
     → IsQuestion q.text params WithClasses
 class_question p in_p q fits params few typed = question_over p q fits params few typed WithClasses (λ db world stood. (stood.1, in_p world.version stood.0))
 

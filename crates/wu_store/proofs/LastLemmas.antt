@@ -13,7 +13,7 @@ use Rattle.wu_store.proofs.OrderAnswers.{in_order, pair, passing, sorted, sure_s
 use Rattle.wu_schema.proofs.Parts.{table_of, parts_there}
 use Rattle.wu_schema.specs.declared.table.ProjectTable.{ProjectTable}
 use Rattle.wu_schema.specs.declared.table.ProjectTable.TheVariants as the_table
-use Rattle.wu_schema.specs.ProjectTables.{IsTableOf, table_at, name_of}
+use Rattle.wu_schema.specs.ProjectTables.{IsTableOf, table_at, table_name}
 use Rattle.wu_store.specs.declared.texts.TheConstants.{SELECT_LAST_ARCHIVED, SELECT_LAST_GRANT}
 
 -- the first column of the last row in its order
@@ -21,19 +21,19 @@ abbrev last_asked : List ℕ → Asked
 last_asked text = record { text = text; parameters = []; shown = 0 ∷ []; tests = []; order = 0 ∷ []; limit = Some (roll-Expr (Expr-F.Integer (codes "1"))); upto = lit (Int (pos 1)) }
 
 abbrev IsLast : ProjectTable → List ℕ → Type 0
-IsLast p text = (tree : ℕ) → FitsBy (name_of p) (table_at p tree) (last_asked text) true
+IsLast p text = (tree : ℕ) → FitsBy (table_name p) (table_at p tree) (last_asked text) true
 
 -- ---- what it asks
 
 pub last_question : (p : ProjectTable) → ((version : ℕ) → IsTableOf p version) → (text : List ℕ) → IsLast p text → IsQuestion text [] Refines
 last_question p in_p text fits = record {
-  select = record { parsed = parsed_by (name_of p) (table_at p 0) (last_asked text) true; select = select_by (name_of p) (table_at p 0) (last_asked text) true; read = (fits 0).read; is = refl };
+  select = record { parsed = parsed_by (table_name p) (table_at p 0) (last_asked text) true; select = select_by (table_name p) (table_at p 0) (last_asked text) true; read = (fits 0).read; is = refl };
   told = λ old new e h world s unlimited.
       let has = parts_there old.now world s p (in_p world.version) in
       let table = table_of s.trees p in
       let fit = fits (s.trees p) in
-      query_told text [] old new (parsed_by (name_of p) table (last_asked text) true) (query_by (name_of p) table (last_asked text) true) _ (compiles_by old.now.schema (name_of p) has.0 table has.1 (last_asked text) true fit) (omega arith) refl
-      (accepts_by old.now.schema (name_of p) has.0 table has.1 (last_asked text) true fit [] fit.typed) (never_over table.tree (query_by (name_of p) table (last_asked text) true) [] (terms_of (name_of p) table (last_asked text)) old.now.trees [] refl refl) unlimited e h;
+      query_told text [] old new (parsed_by (table_name p) table (last_asked text) true) (query_by (table_name p) table (last_asked text) true) _ (compiles_by old.now.schema (table_name p) has.0 table has.1 (last_asked text) true fit) (omega arith) refl
+      (accepts_by old.now.schema (table_name p) has.0 table has.1 (last_asked text) true fit [] fit.typed) (never_over table.tree (query_by (table_name p) table (last_asked text) true) [] (terms_of (table_name p) table (last_asked text)) old.now.trees [] refl refl) unlimited e h;
 }
 
 -- ---- places, from the last to the first
@@ -79,10 +79,10 @@ module _ (p : ProjectTable) (text : List ℕ) (fits : IsLast p text) (old new : 
   seen = pair table.tree [] (col 1 0 ∷ []) 0 true (lit (Int (pos 1))) []
 
   -- the last of the places of a list whose rows these are, in a table of which the first column is the key
-  pub last_found : {X : Type 0} → query_by (name_of p) table (last_asked text) true ≡ sorted table.tree [] (col 1 0 ∷ []) 0 true (lit (Int (pos 1))) [] → (stored : ℕ × X → Row) → ((q : ℕ × X) → column (stored q) 0 ≡ number q.0) → (xs : List X) → old.now.trees table.tree ≡ map stored (enumerate_from 1 xs) → (rows : List Row) → Shown text [] old new rows → rows ≡ option_to_list (last_place xs)
+  pub last_found : {X : Type 0} → query_by (table_name p) table (last_asked text) true ≡ sorted table.tree [] (col 1 0 ∷ []) 0 true (lit (Int (pos 1))) [] → (stored : ℕ × X → Row) → ((q : ℕ × X) → column (stored q) 0 ≡ number q.0) → (xs : List X) → old.now.trees table.tree ≡ map stored (enumerate_from 1 xs) → (rows : List Row) → Shown text [] old new rows → rows ≡ option_to_list (last_place xs)
   last_found keyed stored numbered xs are rows h =
       let has = parts_there old.now world s p in_p in
-      let answers = shown_answers text [] old new _ _ _ (compiles_by old.now.schema (name_of p) has.0 table has.1 (last_asked text) true (fits (s.trees p))) rows h in
+      let answers = shown_answers text [] old new _ _ _ (compiles_by old.now.schema (table_name p) has.0 table has.1 (last_asked text) true (fits (s.trees p))) rows h in
       let sure : Answers old.now (alone (sorted table.tree [] (col 1 0 ∷ []) 0 true (lit (Int (pos 1))) [])) [] rows = subst (λ query. Answers old.now (alone query) [] rows) keyed answers in
       let listed : ups 1 xs ≡ map seen (old.now.trees table.tree) =
       (λ i. map (λ q. (sym (numbered q) i ∷ [], sym (numbered q) i ∷ [])) (enumerate_from 1 xs)) ∙ sym (map-map seen stored (enumerate_from 1 xs)) ∙ ap (map seen) (sym are) in

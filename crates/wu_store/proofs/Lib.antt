@@ -6,6 +6,7 @@ pub mod OnceLemmas
 pub mod WorldOnce
 pub mod ReadAnswers
 pub mod AskLemmas
+pub mod GivenLemmas
 pub mod OrderAnswers
 pub mod LastLemmas
 pub mod KeyedLemmas

@@ -21,7 +21,7 @@ use Rattle.wu_store.specs.StandsFor.{KnowsClasses}
 use Rattle.wu_store.specs.Classes.{class_numbered, LoadsClass}
 use Rattle.wu_store.specs.Loading.{classless, FindsClassless, IsWholeIfThere, Asks, Finds, FindsIfThere, FindsInstances, LoadsInstances, LoadsImport, IsEarlier, IsLoadable, IsLoadableIfThere, IsReadOnly, IsRowIfThere, IsRowOfPresent, IsStoreFault, instances_at}
 pub use Rattle.wu_store.proofs.AskLemmas.{never_refused}
-use Rattle.wu_schema.specs.Reading.{IsStoredImport, stored_import_row}
+use Rattle.wu_schema.specs.Reading.{HasStoredVerdicts, stored_import_row}
 use Rattle.wu_schema.specs.declared.rows.StoredImport.{StoredImport}
 use Rattle.wu_store.proofs.PlacedLemmas.{Rises, world_rises}
 use Rattle.wu_store.proofs.SameWorld.{only_one, same_instances, same_workunit}
@@ -122,17 +122,17 @@ module _ (k : ImportKind) (name : List ℕ) (world : World) (row : Row) (more : 
       among [] are is = absurd cc
       among (import ∷ others) are is = (import, found_first (is_import k name) world.imports import others are, cc)
 
-  pub some_earlier : (stored : StoredImport) → Restores stored_import_row (IsStoredImport k) row (Ok stored) → IsEarlier (find (is_import k name) world.imports) (Some stored)
+  pub some_earlier : (stored : StoredImport) → Restores stored_import_row (HasStoredVerdicts k) row (Ok stored) → IsEarlier (find (is_import k name) world.imports) (Some stored)
   some_earlier stored reads =
       let it = row_of_import in
       let same = same_import it.0 stored (it.2 ∙ reads.value.0) in
       (it.0, it.1, same.0, same.1, same.2, same.3)
 
-  pub import_read : (r : Result StoredImport Fault) → Restores stored_import_row (IsStoredImport k) row r → LoadsImport k name world → IfErr r (λ fault. fault ≢ NotAProject)
+  pub import_read : (r : Result StoredImport Fault) → Restores stored_import_row (HasStoredVerdicts k) row r → LoadsImport k name world → IfErr r (λ fault. fault ≢ NotAProject)
   import_read r reads has =
       let it = row_of_import in
       let stored : StoredImport = record { template = it.0.template; content = it.0.content; first_number = it.0.first_number; verdicts = it.0.verdicts } in
-      never_unread stored_import_row (IsStoredImport k) row r stored reads (rw it.1 at has) (sym it.2)
+      never_unread stored_import_row (HasStoredVerdicts k) row r stored reads (rw it.1 at has) (sym it.2)
 
 -- ---- instances
 

@@ -12,23 +12,23 @@ use Rattle.wu_schema.proofs.RowLemmas.{filter_same, no_rows, one_test}
 use Rattle.wu_schema.proofs.Parts.{table_of, parts_there}
 use Rattle.wu_schema.specs.declared.table.ProjectTable.{ProjectTable}
 use Rattle.wu_schema.specs.declared.table.ProjectTable.TheVariants as the_table
-use Rattle.wu_schema.specs.ProjectTables.{IsTableOf, table_at, name_of}
+use Rattle.wu_schema.specs.ProjectTables.{IsTableOf, table_at, table_name}
 use Rattle.wu_schema.proofs.SelectLemmas.{Asked, Fits, compiles, query_of, tests_of, terms_of}
 use Rattle.wu_store.proofs.SelectTexts.{import_asked, import_fits, import_tests, import_shows, workunit_asked, workunit_fits, workunit_tests, named_asked, named_fits, numbered_asked, numbered_fits, numbered_tests, all_shows, archived_asked, archived_fits, next_asked, next_fits, next_shows}
 
 -- a SELECT of a part of the project
-module _ (p : ProjectTable) (q : Asked) (fits : (tree : ℕ) → Fits (name_of p) (table_at p tree) q) (old new : State) (world : World) (s : Refines old.now world) (in_p : IsTableOf p world.version) (params : Row) (rows : List Row) where
+module _ (p : ProjectTable) (q : Asked) (fits : (tree : ℕ) → Fits (table_name p) (table_at p tree) q) (old new : State) (world : World) (s : Refines old.now world) (in_p : IsTableOf p world.version) (params : Row) (rows : List Row) where
   abbrev table : Table
   table = table_of s.trees p
 
-  pub asked_answers : Shown q.text params old new rows → Answers old.now (alone (query_of (name_of p) table q)) params rows
-  asked_answers h = let has = parts_there old.now world s p in_p in shown_answers q.text params old new _ _ _ (compiles old.now.schema (name_of p) has.0 table has.1 q (fits (s.trees p))) rows h
+  pub asked_answers : Shown q.text params old new rows → Answers old.now (alone (query_of (table_name p) table q)) params rows
+  asked_answers h = let has = parts_there old.now world s p in_p in shown_answers q.text params old new _ _ _ (compiles old.now.schema (table_name p) has.0 table has.1 q (fits (s.trees p))) rows h
 
   -- one with no order: the rows that meet its tests, as it shows them, in some order
-  pub asked_rows : query_of (name_of p) table q ≡ plain_query table.tree (tests_of (name_of p) table q) (terms_of (name_of p) table q) → Shown q.text params old new rows
-      → IsPermutation (showing (terms_of (name_of p) table q) params (meeting (tests_of (name_of p) table q) params (old.now.trees table.tree))) rows
+  pub asked_rows : query_of (table_name p) table q ≡ plain_query table.tree (tests_of (table_name p) table q) (terms_of (table_name p) table q) → Shown q.text params old new rows
+      → IsPermutation (showing (terms_of (table_name p) table q) params (meeting (tests_of (table_name p) table q) params (old.now.trees table.tree))) rows
   asked_rows plain h =
-      answers_are table.tree (tests_of (name_of p) table q) (terms_of (name_of p) table q) params old.now rows (parts_there old.now world s p in_p).1.low (subst (λ query. Answers old.now (alone query) params rows) plain (asked_answers h))
+      answers_are table.tree (tests_of (table_name p) table q) (terms_of (table_name p) table q) params old.now rows (parts_there old.now world s p in_p).1.low (subst (λ query. Answers old.now (alone query) params rows) plain (asked_answers h))
 
 -- ---- lists
 

@@ -9,7 +9,7 @@ use Rattle.wu_core.specs.declared.marks.Marks.{Marks}
 use Rattle.wu_rules.specs.Marks.{marks}
 use Rattle.wu_schema.proofs.QuietLemmas.{same_some}
 use Rattle.wu_store.specs.Answers.{numbered}
-use Rattle.wu_store.specs.Changes.{HasInstances, keeping, put_at, with_instance, with_put, with_replaced, with_row, with_set}
+use Rattle.wu_store.specs.Changes.{HasInstances, keeping_instances, put_at, with_instance, with_put, with_replaced, with_row, with_set}
 use Rattle.wu_store.specs.Classes.{with_set_class}
 use Rattle.wu_store.specs.Queues.{with_set_marks}
 use Rattle.wu_store.specs.StandsFor.{marked}
@@ -185,21 +185,21 @@ module _ (w : Workunit) where
   pub put_replaced : (world : World) (is : List Instance) (n : ℕ) (i : Instance) → with_put w.number n i (with_replaced (listing is) world) ≡ with_replaced (listing (put_at n i is)) world
   put_replaced world is n i = λ k. record world { workunits = changed_again w.number (listing is) refl (λ v. record v { instances = put_at n i v.instances }) world.workunits k }
 
-  pub class_replaced : (world : World) (was : Workunit) → with_set_class w.number w.class (with_replaced (keeping was w) world) ≡ with_replaced (listing was.instances) world
-  class_replaced world was = λ k. record world { workunits = changed_again w.number (keeping was w) refl (λ v. record v { class = w.class }) world.workunits k }
+  pub class_replaced : (world : World) (was : Workunit) → with_set_class w.number w.class (with_replaced (keeping_instances was w) world) ≡ with_replaced (listing was.instances) world
+  class_replaced world was = λ k. record world { workunits = changed_again w.number (keeping_instances was w) refl (λ v. record v { class = w.class }) world.workunits k }
 
-  pub class_kept : (world : World) (was : Workunit) → was.class ≡ w.class → with_replaced (keeping was w) world ≡ with_replaced (listing was.instances) world
+  pub class_kept : (world : World) (was : Workunit) → was.class ≡ w.class → with_replaced (keeping_instances was w) world ≡ with_replaced (listing was.instances) world
   class_kept world was same = ap (λ (class : ℕ). with_replaced (record w { instances = was.instances; class = class }) world) same
 
   pub replaced_found : (v : Workunit) (world : World) (is : List Instance) → numbered w.number world ≡ Some v → numbered w.number (with_replaced (listing is) world) ≡ Some (listing is)
   replaced_found v world is found = found_replaced w.number (listing is) refl v world.workunits found
 
   module _ (db : Database) (world : World) (s : Refines db world) (was : Workunit) (found : numbered w.number world ≡ Some was) where
-    pub row_replaced : with_row w world ≡ with_replaced (keeping was w) world
-    row_replaced = λ k. record world { workunits = one_changed w.number (λ v. keeping v w) (λ v. keeping was w) was world.workunits (world_rises db world s) found refl k }
+    pub row_replaced : with_row w world ≡ with_replaced (keeping_instances was w) world
+    row_replaced = λ k. record world { workunits = one_changed w.number (λ v. keeping_instances v w) (λ v. keeping_instances was w) was world.workunits (world_rises db world s) found refl k }
 
-    pub row_same : bare was ≡ bare w → world ≡ with_replaced (keeping was w) world
-    row_same same = λ k. record world { workunits = none_changed w.number (λ v. keeping was w) was world.workunits (world_rises db world s) found (ap (λ (b : Workunit). keeping was b) same) k }
+    pub row_same : bare was ≡ bare w → world ≡ with_replaced (keeping_instances was w) world
+    row_same same = λ k. record world { workunits = none_changed w.number (λ v. keeping_instances was w) was world.workunits (world_rises db world s) found (ap (λ (b : Workunit). keeping_instances was b) same) k }
 
     -- the marks of all then
     pub marks_replaced : with_set_marks w.number (marks w) (marked world) ≡ marked (with_replaced w world)

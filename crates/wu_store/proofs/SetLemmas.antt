@@ -13,7 +13,7 @@ use Rattle.wu_schema.specs.declared.table.ProjectTable.TheVariants as the_table
 use Rattle.wu_schema.proofs.QueueLemmas.{queue_apart, queue_has, queue_listed, queue_self, queue_steady, queue_still, world_kept}
 use Rattle.wu_schema.proofs.SetTexts.{SetBy, SetFits}
 use Rattle.wu_schema.proofs.StandsLemmas.{is_there, lists_still}
-use Rattle.wu_store.specs.Changes.{HasNumber, and_row, with_row, keeping}
+use Rattle.wu_store.specs.Changes.{HasNumber, and_row, with_row, keeping_instances}
 use Rattle.wu_store.specs.Queues.{with_set_marks}
 use Rattle.wu_store.proofs.KeyedLemmas.{flat_map_stays, map_stays}
 use Rattle.wu_store.proofs.ChangeLemmas.{cast_number, cast_number_or_null}
@@ -131,8 +131,8 @@ module _ (old new : State) (world : World) (s : Refines old.now world) (w : Work
     where
       carry : (p : ProjectTable) → is_part the_table.Workunit p ≡ false → (rs : List Row) → Holds p rs world → Holds p rs (with_row w world)
       carry the_table.Workunit off rs h = absurd (cc)
-      carry the_table.Result off rs h = subst (HoldsAll rs) (sym (flat_map_stays (λ (v : Workunit). v.number == w.number) (λ v. keeping v w) instances_of (λ v on. ap (λ n. map (λ (p : ℕ × Instance). instance_cells n p.0 p.1) (enumerate_from 0 v.instances)) (sym (eqb-true v.number w.number on))) world.workunits)) h
-      carry the_table.WorkunitClass off rs h = subst (ListsAll rs) (sym (map_stays (λ (v : Workunit). v.number == w.number) (λ v. keeping v w) stored_class (λ v on. ap (λ n. class_row (n, v.class)) (sym (eqb-true v.number w.number on))) world.workunits)) h
+      carry the_table.Result off rs h = subst (HoldsAll rs) (sym (flat_map_stays (λ (v : Workunit). v.number == w.number) (λ v. keeping_instances v w) instances_of (λ v on. ap (λ n. map (λ (p : ℕ × Instance). instance_cells n p.0 p.1) (enumerate_from 0 v.instances)) (sym (eqb-true v.number w.number on))) world.workunits)) h
+      carry the_table.WorkunitClass off rs h = subst (ListsAll rs) (sym (map_stays (λ (v : Workunit). v.number == w.number) (λ v. keeping_instances v w) stored_class (λ v on. ap (λ n. class_row (n, v.class)) (sym (eqb-true v.number w.number on))) world.workunits)) h
       carry _ off rs h = h
 
   pub row_leaves : (marked : List (ℕ × Marks)) → HasQueue old.now marked → HasQueue new.now marked

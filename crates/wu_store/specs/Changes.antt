@@ -68,12 +68,12 @@ abbrev pub with_replaced : Workunit → World → World
 with_replaced w world = record world { workunits = map (λ v. if v.number == w.number then w else v) world.workunits }
 
 -- The workunit with the instances and the class of another.
-abbrev pub keeping : Workunit → Workunit → Workunit
-keeping was w = record w { instances = was.instances; class = was.class }
+abbrev pub keeping_instances : Workunit → Workunit → Workunit
+keeping_instances was w = record w { instances = was.instances; class = was.class }
 
 -- The second workunit with the row of the first, if they have the same number; its instances and its class stay.
 abbrev pub and_row : Workunit → Workunit → Workunit
-and_row w v = if v.number == w.number then keeping v w else v
+and_row w v = if v.number == w.number then keeping_instances v w else v
 
 abbrev pub with_row : Workunit → World → World
 with_row w world = record world { workunits = map (and_row w) world.workunits }
@@ -171,12 +171,12 @@ PutsInstances w was old new =
 abbrev pub PutsRow : Workunit → Workunit → Database → Database → Type 0
 PutsRow was w old new =
     (world : World) → Refines old world → numbered w.number world ≡ Some was
-    → StandsBeside (with_replaced (keeping was w) world) old new
+    → StandsBeside (with_replaced (keeping_instances was w) world) old new
 
 -- The class of the workunit is then set, if the world has classes.
 abbrev pub PutsClassOf : Workunit → Workunit → Database → Database → Type 0
 PutsClassOf was w old new =
-    (world : World) → KnowsClasses world → Refines old (with_replaced (keeping was w) world)
+    (world : World) → KnowsClasses world → Refines old (with_replaced (keeping_instances was w) world)
     → StandsBeside (with_replaced (record w { instances = was.instances }) world) old new
 
 -- The marks of the workunit are put into the queue, in place of those of the workunit that had its number at first.

@@ -1,53 +1,31 @@
-//! The statements of the store. The columns of a workunit and of an instance stand once.
+//! The statements of the store.
 
-macro_rules! workunit_columns {
-    ($then:ident $($rest:tt)*) => {
-        $then!($($rest)*
-            "number", "name", "min_quorum", "target_nresults", "max_error_results",
-            "max_total_results", "max_success_results", "delay_bound", "credit", "input",
-            "error_mask", "canonical", "assimilate", "file_delete", "done_at"
-        )
-    };
-}
-
-macro_rules! result_columns {
-    ($then:ident $($rest:tt)*) => {
-        $then!($($rest)*
-            "server_state", "outcome", "validate_state", "file_delete", "host", "sent_at",
-            "deadline", "received_at", "output"
-        )
-    };
-}
-
-// A list of columns between two texts.
-macro_rules! listed {
-    ($front:literal, $back:literal, $first:literal $(, $column:literal)*) => {
-        concat!($front, $first $(, ", ", $column)*, $back)
-    };
-}
+use wu_schema::{
+    archived_columns, grant_columns, host_class_columns, host_columns, import_columns,
+    import_values, inserted, queue_columns, queue_values, result_columns, result_values, selected,
+    updated, workunit_class_columns, workunit_columns, workunit_values,
+};
 
 /// Asks for the import of a kind and a name.
 pub const SELECT_IMPORT: &str =
-    "SELECT template, content, first_number, verdicts FROM import WHERE kind = ?1 AND name = ?2";
+    import_values!(selected " FROM import WHERE kind = ?1 AND name = ?2":);
 
 /// Asks for the number of the workunit of a name.
 pub const SELECT_NUMBER: &str = "SELECT number FROM workunit WHERE name = ?1";
 
 /// Asks for the workunit of a name.
-pub const SELECT_NAMED: &str =
-    workunit_columns!(listed "SELECT ", " FROM workunit WHERE name = ?1",);
+pub const SELECT_NAMED: &str = workunit_columns!(selected " FROM workunit WHERE name = ?1":);
 
 /// Asks for the workunit of a number.
-pub const SELECT_NUMBERED: &str =
-    workunit_columns!(listed "SELECT ", " FROM workunit WHERE number = ?1",);
+pub const SELECT_NUMBERED: &str = workunit_columns!(selected " FROM workunit WHERE number = ?1":);
 
 /// Asks for the first workunit above a number.
 pub const SELECT_ABOVE: &str =
-    workunit_columns!(listed "SELECT ", " FROM workunit WHERE number > ?1 ORDER BY number LIMIT 1",);
+    workunit_columns!(selected " FROM workunit WHERE number > ?1 ORDER BY number LIMIT 1":);
 
 /// Asks for the instances of a workunit, in order.
 pub const SELECT_INSTANCES: &str =
-    result_columns!(listed "SELECT ", " FROM result WHERE workunit = ?1 ORDER BY n",);
+    result_values!(selected " FROM result WHERE workunit = ?1 ORDER BY n":);
 
 /// Asks for the number of the archived workunit of a name.
 pub const SELECT_ARCHIVED: &str = "SELECT number FROM archived WHERE name = ?1";
@@ -88,50 +66,41 @@ pub const SELECT_TO_PURGE: &str =
     "SELECT workunit FROM queue WHERE purge_from >= ?1 AND purge_from <= ?2 ORDER BY workunit LIMIT ?3";
 
 /// Adds a workunit.
-pub const INSERT_WORKUNIT: &str =
-    workunit_columns!(listed "INSERT INTO workunit (", ") VALUES (?1, ?2, ?3, ?4, ?5, ?6, ?7, ?8, ?9, ?10, ?11, ?12, ?13, ?14, ?15)",);
+pub const INSERT_WORKUNIT: &str = workunit_columns!(inserted "workunit" "":);
 
 /// Adds an instance.
-pub const INSERT_RESULT: &str =
-    result_columns!(listed "INSERT INTO result (workunit, n, ", ") VALUES (?1, ?2, ?3, ?4, ?5, ?6, ?7, ?8, ?9, ?10, ?11)",);
+pub const INSERT_RESULT: &str = result_columns!(inserted "result" "":);
 
 /// Adds a grant.
-pub const INSERT_GRANT: &str =
-    "INSERT INTO credit_grant (seq, workunit, n, host, credit) VALUES (?1, ?2, ?3, ?4, ?5)";
+pub const INSERT_GRANT: &str = grant_columns!(inserted "credit_grant" "":);
 
 /// Adds an archived workunit.
-pub const INSERT_ARCHIVED: &str =
-    "INSERT INTO archived (seq, number, name, error_mask, canonical, output, done_at) VALUES (?1, ?2, ?3, ?4, ?5, ?6, ?7)";
+pub const INSERT_ARCHIVED: &str = archived_columns!(inserted "archived" "":);
 
 /// Adds an import.
-pub const INSERT_IMPORT: &str =
-    "INSERT INTO import (kind, name, template, content, first_number, verdicts) VALUES (?1, ?2, ?3, ?4, ?5, ?6)";
+pub const INSERT_IMPORT: &str = import_columns!(inserted "import" "":);
 
 /// Adds the marks of a workunit.
-pub const INSERT_MARKS: &str =
-    "INSERT INTO queue (workunit, wake, to_validate, to_assimilate, to_delete, purge_from) VALUES (?1, ?2, ?3, ?4, ?5, ?6)";
+pub const INSERT_MARKS: &str = queue_columns!(inserted "queue" "":);
 
 /// Adds the class of a workunit.
-pub const INSERT_CLASS: &str = "INSERT INTO workunit_class (workunit, class) VALUES (?1, ?2)";
+pub const INSERT_CLASS: &str = workunit_class_columns!(inserted "workunit_class" "":);
 
 /// Adds the class of a host.
-pub const INSERT_HOST_CLASS: &str = "INSERT INTO host_class (host, class) VALUES (?1, ?2)";
+pub const INSERT_HOST_CLASS: &str = host_class_columns!(inserted "host_class" "":);
 
 /// Adds a sum to the total of a host, and a number to its grants.
 pub const UPSERT_HOST: &str =
-    "INSERT INTO host (name, total, grants) VALUES (?1, ?2, ?3) ON CONFLICT (name) DO UPDATE SET total = total + excluded.total, grants = grants + excluded.grants";
+    host_columns!(inserted "host" " ON CONFLICT (name) DO UPDATE SET total = total + excluded.total, grants = grants + excluded.grants":);
 
 /// Sets the values of a workunit.
-pub const UPDATE_WORKUNIT: &str =
-    "UPDATE workunit SET name = ?2, min_quorum = ?3, target_nresults = ?4, max_error_results = ?5, max_total_results = ?6, max_success_results = ?7, delay_bound = ?8, credit = ?9, input = ?10, error_mask = ?11, canonical = ?12, assimilate = ?13, file_delete = ?14, done_at = ?15 WHERE number = ?1";
+pub const UPDATE_WORKUNIT: &str = workunit_values!(updated "workunit" " WHERE number = ?1":);
 
 /// Sets the values of an instance.
-pub const UPDATE_RESULT: &str =
-    "UPDATE result SET server_state = ?3, outcome = ?4, validate_state = ?5, file_delete = ?6, host = ?7, sent_at = ?8, deadline = ?9, received_at = ?10, output = ?11 WHERE workunit = ?1 AND n = ?2";
+pub const UPDATE_RESULT: &str = result_values!(updated "result" " WHERE workunit = ?1 AND n = ?2":);
 
 /// Sets the marks of a workunit.
-pub const UPDATE_MARKS: &str =
-    "UPDATE queue SET wake = ?2, to_validate = ?3, to_assimilate = ?4, to_delete = ?5, purge_from = ?6 WHERE workunit = ?1";
+pub const UPDATE_MARKS: &str = queue_values!(updated "queue" " WHERE workunit = ?1":);
 
 /// Sets the class of a workunit.
 pub const UPDATE_CLASS: &str = "UPDATE workunit_class SET class = ?2 WHERE workunit = ?1";

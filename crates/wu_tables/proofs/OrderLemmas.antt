@@ -1,9 +1,9 @@
 -- The first that is wrong with the tables, in the written order.
 use Rattle.std.proofs.Common.{◌≡◌, ◌+◌, ◌<◌, ◌∙◌, ℕ, zero, suc, IfErr, IsErrAnd, OnOk, Result, Ok, Err, ap, arith, below_more, get_or, refl, subst, sym}
 use Rattle.sqlite.specs.Schema.{Schema}
-use Rattle.wu_schema.specs.ProjectTables.{HasTables, IsTableOf, ProjectTrees, in_order, name_of, rank, table_at}
+use Rattle.wu_schema.specs.ProjectTables.{HasTables, IsTableOf, ProjectTrees, in_order, table_name, rank, table_at}
 use Rattle.wu_schema.proofs.TableOrder.{one_rank, rank_at, rank_low}
-use Rattle.wu_tables.specs.Found.{rank_of, AreThereBefore, HasBytewiseHosts, IsFirstAgainst, IsTableIn, IsThere, StandsAgainst}
+use Rattle.wu_tables.specs.Found.{rank_of, AreThereBefore, HasBytewiseHosts, IsFirstMisfit, IsTableIn, IsThere, IsMisfitOf}
 use Rattle.wu_schema.specs.declared.table.ProjectTable.{ProjectTable}
 use Rattle.wu_schema.specs.declared.table.ProjectTable.TheVariants.{Archived, Grant, Host, HostClass, Import, Project, Result as Results, Workunit, WorkunitClass}
 use Rattle.wu_tables.specs.declared.project.Misfit.{Misfit}
@@ -19,10 +19,10 @@ module _ (version : ℕ) (schema : Schema) where
       (λ t is. (tree, subst (λ (u : ProjectTable). IsThere version schema u tree) (one_rank which t is) there)) (rank other) low other refl
 
   -- what is wrong with the next table is the first
-  pub first_in : {T : Type 0} (r : Result T Misfit) (misfit : Misfit) (which : ProjectTable) → AreThereBefore version schema (rank which) → IsErrAnd r (λ other. other ≡ misfit) → StandsAgainst version schema misfit → rank_of misfit ≡ rank which → IfErr r (IsFirstAgainst version schema)
+  pub first_in : {T : Type 0} (r : Result T Misfit) (misfit : Misfit) (which : ProjectTable) → AreThereBefore version schema (rank which) → IsErrAnd r (λ other. other ≡ misfit) → IsMisfitOf version schema misfit → rank_of misfit ≡ rank which → IfErr r (IsFirstMisfit version schema)
   first_in (Ok x) misfit which so_far same wrong at = tt
   first_in (Err other) misfit which so_far same wrong at =
-      subst (IsFirstAgainst version schema) (sym same) (record { wrong = wrong; before = subst (AreThereBefore version schema) (sym at) so_far })
+      subst (IsFirstMisfit version schema) (sym same) (record { wrong = wrong; before = subst (AreThereBefore version schema) (sym at) so_far })
 
   -- with the table at the next place
   pub next_there : (place : ℕ) → place < 9 → (tree : ℕ) → IsThere version schema (get_or in_order place Project) tree → AreThereBefore version schema place → AreThereBefore version schema (place + 1)
@@ -31,7 +31,7 @@ module _ (version : ℕ) (schema : Schema) where
       subst (λ n. AreThereBefore version schema (n + 1)) at (more_before (get_or in_order place Project) tree there (subst (AreThereBefore version schema) (sym at) so_far))
 
   -- what is wrong with the table at the next place is the first
-  pub first_at : {T : Type 0} (r : Result T Misfit) (misfit : Misfit) (place : ℕ) → place < 9 → AreThereBefore version schema place → IsErrAnd r (λ other. other ≡ misfit) → StandsAgainst version schema misfit → rank_of misfit ≡ rank (get_or in_order place Project) → IfErr r (IsFirstAgainst version schema)
+  pub first_at : {T : Type 0} (r : Result T Misfit) (misfit : Misfit) (place : ℕ) → place < 9 → AreThereBefore version schema place → IsErrAnd r (λ other. other ≡ misfit) → IsMisfitOf version schema misfit → rank_of misfit ≡ rank (get_or in_order place Project) → IfErr r (IsFirstMisfit version schema)
   first_at r misfit place low so_far = first_in r misfit (get_or in_order place Project) (subst (AreThereBefore version schema) (sym (rank_at place low)) so_far)
 
   -- what is there before the last place is there before each
@@ -43,7 +43,7 @@ module _ (version : ℕ) (schema : Schema) where
   trees_from all hosts Host = hosts.0
   trees_from all hosts which = (all which (rank_low which)).0
 
-  each_there : (all : AreThereBefore version schema 9) (hosts : HasBytewiseHosts version schema) (which : ProjectTable) → IsTableOf which version → IsTableIn schema (name_of which) (table_at which) (trees_from all hosts which)
+  each_there : (all : AreThereBefore version schema 9) (hosts : HasBytewiseHosts version schema) (which : ProjectTable) → IsTableOf which version → IsTableIn schema (table_name which) (table_at which) (trees_from all hosts which)
   each_there all hosts Host is_in = hosts.1 is_in
   each_there all hosts which is_in = (all which (rank_low which)).1 is_in
 

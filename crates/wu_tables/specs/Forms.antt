@@ -73,7 +73,7 @@ table_of_form form tree = record (blank form.name.now tree (map column_of_form f
 }
 
 -- The table has the keys of the form.
-pub record HasKeys (table : Table) (form : TableForm) : Type 0 where
+pub record HasKeysOf (table : Table) (form : TableForm) : Type 0 where
   pub key : table.key ≡ form.key
   pub primary : table.primary ≡ form.primary.now
   pub uniques : table.uniques ≡ places_of form.uniques.now

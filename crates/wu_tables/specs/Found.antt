@@ -12,7 +12,7 @@ use Rattle.sqlite_value.specs.Keys.{first_key}
 use Rattle.wu_schema.specs.Indexes.{IsIndexed, queue_indexes}
 use Rattle.wu_schema.specs.Tables.{HasNamed, OwnsTree, host_at, queue_at}
 use Rattle.wu_tables.specs.Forms.{table_of_form}
-use Rattle.wu_schema.specs.ProjectTables.{IsTableOf, name_of, rank, table_at}
+use Rattle.wu_schema.specs.ProjectTables.{IsTableOf, table_name, rank, table_at}
 use Rattle.wu_schema.specs.declared.table.ProjectTable.{ProjectTable}
 use Rattle.wu_schema.specs.declared.table.ProjectTable.TheVariants.{Host}
 use Rattle.wu_tables.specs.declared.forms.TableForm.{TableForm}
@@ -49,15 +49,15 @@ pub record HasQueueIn (schema : Schema) (tree : ℕ) : Type 0 where
 
 -- If the version has this table of a project, its name finds it in this tree.
 abbrev pub IsThere : ℕ → Schema → ProjectTable → ℕ → Type 0
-IsThere version schema which tree = IsTableOf which version → IsTableIn schema (name_of which) (table_at which) tree
+IsThere version schema which tree = IsTableOf which version → IsTableIn schema (table_name which) (table_at which) tree
 
 -- This is wrong with the schema: a table of the version is missing; or its name is there, but nowhere as the program
 -- makes it; or an index does not compare the bytes of the names of hosts.
-abbrev pub StandsAgainst : ℕ → Schema → Misfit → Type 0
-StandsAgainst version schema (Missing which) = IsTableOf which version × (table_named schema (name_of which) ≡ None)
-StandsAgainst version schema (Altered which) =
-    IsTableOf which version × IsSome (table_named schema (name_of which)) × ((tree : ℕ) → IsTableIn schema (name_of which) (table_at which) tree → ⊥)
-StandsAgainst version schema HostNames = (tree : ℕ) × HasNamed schema (codes "host") (host_at tree) × (AreByBytes schema tree → ⊥)
+abbrev pub IsMisfitOf : ℕ → Schema → Misfit → Type 0
+IsMisfitOf version schema (Missing which) = IsTableOf which version × (table_named schema (table_name which) ≡ None)
+IsMisfitOf version schema (Altered which) =
+    IsTableOf which version × IsSome (table_named schema (table_name which)) × ((tree : ℕ) → IsTableIn schema (table_name which) (table_at which) tree → ⊥)
+IsMisfitOf version schema HostNames = (tree : ℕ) × HasNamed schema (codes "host") (host_at tree) × (AreByBytes schema tree → ⊥)
 
 -- The place of what is wrong in the written order: that of its table, and for the names of hosts a place behind all
 -- tables.
@@ -75,6 +75,6 @@ abbrev pub HasBytewiseHosts : ℕ → Schema → Type 0
 HasBytewiseHosts version schema = (tree : ℕ) × IsThere version schema Host tree × AreByBytes schema tree
 
 -- This is the first that is wrong with the schema, in the written order.
-pub record IsFirstAgainst (version : ℕ) (schema : Schema) (misfit : Misfit) : Type 0 where
-  pub wrong : StandsAgainst version schema misfit
+pub record IsFirstMisfit (version : ℕ) (schema : Schema) (misfit : Misfit) : Type 0 where
+  pub wrong : IsMisfitOf version schema misfit
   pub before : AreThereBefore version schema (rank_of misfit)

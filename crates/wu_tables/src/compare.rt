@@ -2,7 +2,7 @@
 
 ghost use Rattle.std.specs.Prelude.{◌≡◌, ◌↔◌, IsTrue, map, pos};
 ghost use Rattle.sqlite_schema.specs.Code.{term_in};
-ghost use Rattle.wu_tables.specs.Forms.{checks_of, column_of_form, is_one, no_stamps, op_at, orders_of, places_of, reference_of, table_of_form, HasKeys, HasRules, SaysOne};
+ghost use Rattle.wu_tables.specs.Forms.{checks_of, column_of_form, is_one, no_stamps, op_at, orders_of, places_of, reference_of, table_of_form, HasKeysOf, HasRules, SaysOne};
 
 use crate::forms::{ColumnForm, ReferenceForm, TableForm};
 use sqlite_items::Items;
@@ -150,7 +150,7 @@ fn are_no_stamps(stamps: &Stamps) -> bool
 fn has_keys(table: &Table, form: &TableForm) -> bool
     // It is true exactly where key, primary key and further keys are those of the form, compared by
     // bytes in rising order.
-    ensures { IsTrue result ↔ HasKeys table.now form.now }
+    ensures { IsTrue result ↔ HasKeysOf table.now form.now }
 {
     table.key == form.key
         && table.primary.as_slice() == form.primary

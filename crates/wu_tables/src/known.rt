@@ -3,20 +3,27 @@
 ghost use Rattle.std.specs.Prelude.{◌≡◌, ℕ, codes};
 ghost use Rattle.wu_schema.specs.Tables.{queue_at};
 ghost use Rattle.wu_tables.specs.Forms.{table_of_form};
-ghost use Rattle.wu_schema.specs.ProjectTables.{name_of, table_at};
+ghost use Rattle.wu_schema.specs.ProjectTables.{table_name, table_at};
 
 use crate::forms::ColumnForm::{May, Needs};
 use crate::forms::{ReferenceForm, TableForm};
 use sqlite_schema::schema::Kind::{Blob, Integer, Text};
-use wu_schema::ProjectTable;
+use wu_schema::{
+    ProjectTable, archived_columns, grant_columns, host_class_columns, host_columns,
+    import_columns, project_columns, queue_columns, result_columns, workunit_class_columns,
+    workunit_columns,
+};
+
+// The forms of these columns.
+macro_rules! formed {
+    ($($column:literal $type:literal $has:ident $kind:ident $value:literal),*) => {
+        &[$($has($column, $kind)),*]
+    };
+}
 
 const PROJECT: TableForm = TableForm {
     name: "project",
-    columns: &[
-        May("one", Integer),
-        Needs("version", Integer),
-        Needs("next_number", Integer),
-    ],
+    columns: project_columns!(formed),
     key: Some(0),
     primary: &[0],
     uniques: &[],
@@ -26,23 +33,7 @@ const PROJECT: TableForm = TableForm {
 
 const WORKUNIT: TableForm = TableForm {
     name: "workunit",
-    columns: &[
-        May("number", Integer),
-        Needs("name", Text),
-        Needs("min_quorum", Integer),
-        Needs("target_nresults", Integer),
-        Needs("max_error_results", Integer),
-        Needs("max_total_results", Integer),
-        Needs("max_success_results", Integer),
-        Needs("delay_bound", Integer),
-        Needs("credit", Integer),
-        Needs("input", Blob),
-        Needs("error_mask", Integer),
-        May("canonical", Integer),
-        Needs("assimilate", Integer),
-        Needs("file_delete", Integer),
-        May("done_at", Integer),
-    ],
+    columns: workunit_columns!(formed),
     key: Some(0),
     primary: &[0],
     uniques: &[&[2]],
@@ -52,19 +43,7 @@ const WORKUNIT: TableForm = TableForm {
 
 const RESULT: TableForm = TableForm {
     name: "result",
-    columns: &[
-        Needs("workunit", Integer),
-        Needs("n", Integer),
-        Needs("server_state", Integer),
-        Needs("outcome", Integer),
-        Needs("validate_state", Integer),
-        Needs("file_delete", Integer),
-        May("host", Text),
-        May("sent_at", Integer),
-        May("deadline", Integer),
-        May("received_at", Integer),
-        Needs("output", Blob),
-    ],
+    columns: result_columns!(formed),
     key: None,
     primary: &[1, 2],
     uniques: &[&[1, 2]],
@@ -78,13 +57,7 @@ const RESULT: TableForm = TableForm {
 
 const GRANT: TableForm = TableForm {
     name: "credit_grant",
-    columns: &[
-        May("seq", Integer),
-        Needs("workunit", Integer),
-        Needs("n", Integer),
-        Needs("host", Text),
-        Needs("credit", Integer),
-    ],
+    columns: grant_columns!(formed),
     key: Some(0),
     primary: &[0],
     uniques: &[&[2, 3]],
@@ -94,11 +67,7 @@ const GRANT: TableForm = TableForm {
 
 const HOST: TableForm = TableForm {
     name: "host",
-    columns: &[
-        Needs("name", Text),
-        Needs("total", Integer),
-        Needs("grants", Integer),
-    ],
+    columns: host_columns!(formed),
     key: None,
     primary: &[1],
     uniques: &[&[1]],
@@ -108,15 +77,7 @@ const HOST: TableForm = TableForm {
 
 const ARCHIVED: TableForm = TableForm {
     name: "archived",
-    columns: &[
-        May("seq", Integer),
-        Needs("number", Integer),
-        Needs("name", Text),
-        Needs("error_mask", Integer),
-        May("canonical", Integer),
-        Needs("output", Blob),
-        Needs("done_at", Integer),
-    ],
+    columns: archived_columns!(formed),
     key: Some(0),
     primary: &[0],
     uniques: &[&[2], &[3]],
@@ -126,14 +87,7 @@ const ARCHIVED: TableForm = TableForm {
 
 const IMPORT: TableForm = TableForm {
     name: "import",
-    columns: &[
-        Needs("kind", Integer),
-        Needs("name", Text),
-        Needs("template", Blob),
-        Needs("content", Blob),
-        Needs("first_number", Integer),
-        Needs("verdicts", Text),
-    ],
+    columns: import_columns!(formed),
     key: None,
     primary: &[1, 2],
     uniques: &[&[1, 2]],
@@ -143,7 +97,7 @@ const IMPORT: TableForm = TableForm {
 
 const HOST_CLASS: TableForm = TableForm {
     name: "host_class",
-    columns: &[Needs("host", Text), Needs("class", Integer)],
+    columns: host_class_columns!(formed),
     key: None,
     primary: &[1],
     uniques: &[&[1]],
@@ -153,7 +107,7 @@ const HOST_CLASS: TableForm = TableForm {
 
 const WORKUNIT_CLASS: TableForm = TableForm {
     name: "workunit_class",
-    columns: &[May("workunit", Integer), Needs("class", Integer)],
+    columns: workunit_class_columns!(formed),
     key: Some(0),
     primary: &[0],
     uniques: &[],
@@ -167,14 +121,7 @@ const WORKUNIT_CLASS: TableForm = TableForm {
 
 const QUEUE: TableForm = TableForm {
     name: "queue",
-    columns: &[
-        May("workunit", Integer),
-        May("wake", Integer),
-        Needs("to_validate", Integer),
-        Needs("to_assimilate", Integer),
-        Needs("to_delete", Integer),
-        May("purge_from", Integer),
-    ],
+    columns: queue_columns!(formed),
     key: Some(0),
     primary: &[0],
     uniques: &[],
@@ -189,7 +136,7 @@ const QUEUE: TableForm = TableForm {
 /// Returns the form of the table.
 pub fn form_of(table: ProjectTable) -> TableForm
     // The form has the name of the table.
-    ensures name { result.name.now ≡ name_of table }
+    ensures name { result.name.now ≡ table_name table }
     // In any tree the form describes the table as the program makes it.
     ensures table { (tree : ℕ) → table_of_form result tree ≡ table_at table tree }
 {

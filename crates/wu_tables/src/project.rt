@@ -1,7 +1,7 @@
 //! The tables of a project, the queue aside.
 
 ghost use Rattle.std.specs.Prelude.{◌≡◌, IfErr, IfOk, OnOk};
-ghost use Rattle.wu_tables.specs.Found.{rank_of, AreThereBefore, HasBytewiseHosts, IsFirstAgainst, IsThere, StandsAgainst};
+ghost use Rattle.wu_tables.specs.Found.{rank_of, AreThereBefore, HasBytewiseHosts, IsFirstMisfit, IsThere, IsMisfitOf};
 ghost use Rattle.wu_schema.specs.ProjectTables.{HasTables, ProjectTrees, rank};
 
 use crate::known::form_of;
@@ -39,7 +39,7 @@ fn project_tree(schema: &Schema, version: u64, which: ProjectTable) -> Result<u3
     ensures found { IfOk result (IsThere version schema.now which) }
     // The misfit is true: the version has the table, and its name finds no table, or one that
     // differs.
-    ensures told { IfErr result (StandsAgainst version schema.now) }
+    ensures told { IfErr result (IsMisfitOf version schema.now) }
     // The misfit is that of this table.
     ensures table { IfErr result (λ misfit. rank_of misfit ≡ rank which) }
 {
@@ -59,7 +59,7 @@ fn project_tree(schema: &Schema, version: u64, which: ProjectTable) -> Result<u3
 /// Returns `Ok` if each table of this version is there in its form, or what is wrong with the first that is not.
 fn know_each(schema: &Schema, version: u64) -> Result<(), Misfit>
     ensures there { OnOk result (AreThereBefore version schema.now 9) }
-    ensures told { IfErr result (IsFirstAgainst version schema.now) }
+    ensures told { IfErr result (IsFirstMisfit version schema.now) }
 {
     for which in IN_ORDER {
         project_tree(schema, version, which)?;
@@ -71,7 +71,7 @@ fn know_each(schema: &Schema, version: u64) -> Result<(), Misfit>
 fn know_host_names(schema: &Schema, version: u64) -> Result<(), Misfit>
     requires { AreThereBefore version schema.now 9 }
     ensures found { OnOk result (HasBytewiseHosts version schema.now) }
-    ensures told { IfErr result (IsFirstAgainst version schema.now) }
+    ensures told { IfErr result (IsFirstMisfit version schema.now) }
 {
     let host = project_tree(schema, version, ProjectTable::Host)?;
     if are_by_bytes(schema, host) {
@@ -92,7 +92,7 @@ pub fn know_tables(schema: &Schema, version: u64) -> Result<(), Misfit>
         → HasTables version schema.now trees → ⊥) }
     // The misfit is the first in the written order: no table has the name, the one that has it
     // differs, or a unique index compares hosts' names otherwise; and each table before is there.
-    ensures told { IfErr result (IsFirstAgainst version schema.now) }
+    ensures told { IfErr result (IsFirstMisfit version schema.now) }
 {
     know_each(schema, version)?;
     know_host_names(schema, version)

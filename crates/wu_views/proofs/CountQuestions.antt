@@ -7,7 +7,7 @@ use Rattle.wu_schema.proofs.ReadLemmas.{if_ok, if_err}
 use Rattle.wu_schema.proofs.ToldLemmas.{counted_told}
 use Rattle.wu_schema.proofs.Parts.{parts_there}
 use Rattle.wu_schema.specs.declared.table.ProjectTable.{ProjectTable}
-use Rattle.wu_schema.specs.ProjectTables.{IsTableOf, table_at, name_of}
+use Rattle.wu_schema.specs.ProjectTables.{IsTableOf, table_at, table_name}
 use Rattle.wu_schema.proofs.CountTexts.{CountFits, Counted, IsCountTyped, count_parsed, count_select}
 use Rattle.wu_schema.proofs.QuietLemmas.{same_some}
 use Rattle.sqlite_sql.specs.Aggregate.{count}
@@ -45,21 +45,21 @@ module _ {S : Type 0} (g : Ghosts S) (old new : Held S) (sql : List ℕ) (params
 -- ---- a question that counts
 
 -- one that counts rows of its table
-pub count_question : (p : ProjectTable) → ((version : ℕ) → IsTableOf p version) → (q : Counted) → ((tree : ℕ) → CountFits (name_of p) (table_at p tree) q) → (params : Row) → length params ≡ length q.parameters
-    → ((tree : ℕ) → IsCountTyped (name_of p) (table_at p tree) q params) → IsQuestion q.text params Refines
+pub count_question : (p : ProjectTable) → ((version : ℕ) → IsTableOf p version) → (q : Counted) → ((tree : ℕ) → CountFits (table_name p) (table_at p tree) q) → (params : Row) → length params ≡ length q.parameters
+    → ((tree : ℕ) → IsCountTyped (table_name p) (table_at p tree) q params) → IsQuestion q.text params Refines
 count_question p in_p q fits params few typed = record {
-  select = record { parsed = count_parsed (name_of p) (table_at p 0) q; select = count_select (name_of p) (table_at p 0) q; read = (fits 0).read; is = refl };
-  told = λ old new e h world s unlimited. let has = parts_there old.now world s p (in_p world.version) in counted_told (name_of p) has.0 _ q (fits _) old new has.1 params e few (typed _) unlimited h;
+  select = record { parsed = count_parsed (table_name p) (table_at p 0) q; select = count_select (table_name p) (table_at p 0) q; read = (fits 0).read; is = refl };
+  told = λ old new e h world s unlimited. let has = parts_there old.now world s p (in_p world.version) in counted_told (table_name p) has.0 _ q (fits _) old new has.1 params e few (typed _) unlimited h;
 }
 
 -- one that counts rows of a table of classes
-pub class_count_question : (p : ProjectTable) → ((version : ℕ) → IsClassedVersion version → IsTableOf p version) → (q : Counted) → ((tree : ℕ) → CountFits (name_of p) (table_at p tree) q) → (params : Row) → length params ≡ length q.parameters
-    → ((tree : ℕ) → IsCountTyped (name_of p) (table_at p tree) q params) → IsQuestion q.text params WithClasses
+pub class_count_question : (p : ProjectTable) → ((version : ℕ) → IsClassedVersion version → IsTableOf p version) → (q : Counted) → ((tree : ℕ) → CountFits (table_name p) (table_at p tree) q) → (params : Row) → length params ≡ length q.parameters
+    → ((tree : ℕ) → IsCountTyped (table_name p) (table_at p tree) q params) → IsQuestion q.text params WithClasses
 class_count_question p in_p q fits params few typed = record {
-  select = record { parsed = count_parsed (name_of p) (table_at p 0) q; select = count_select (name_of p) (table_at p 0) q; read = (fits 0).read; is = refl };
+  select = record { parsed = count_parsed (table_name p) (table_at p 0) q; select = count_select (table_name p) (table_at p 0) q; read = (fits 0).read; is = refl };
   told = λ old new e h world stood unlimited.
       let has = parts_there old.now world stood.1 p (in_p world.version stood.0) in
-      counted_told (name_of p) has.0 _ q (fits _) old new has.1 params e few (typed _) unlimited h;
+      counted_told (table_name p) has.0 _ q (fits _) old new has.1 params e few (typed _) unlimited h;
 }
 
 -- the number that its one row counts

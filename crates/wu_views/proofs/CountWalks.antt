@@ -19,7 +19,7 @@ use Rattle.wu_views.specs.declared.counts.Granted.{Granted}
 use Rattle.wu_views.specs.declared.counts.Results.{Results}
 use Rattle.wu_views.proofs.CountLemmas.{cells_long, cells_more, credit_summed, first_cells, grants_counted, has_room, next_credit, next_state, numbers_more, numbers_summed, states_counted, sum_within}
 use Rattle.wu_views.proofs.CountedAnswers.{credit_asked, credit_fits, credit_found, credit_question, states_asked, states_fit, states_found, states_question}
-use Rattle.wu_views.proofs.GivenLemmas.{IsWalked, end_asks, end_opens, failed_asks, failed_opens, failed_told, refused_asks, refused_opens, refused_told, shown_since, shown_until, walk_asks, walk_begins, walk_ends, walk_front, walk_on, walk_opens}
+use Rattle.wu_store.proofs.GivenLemmas.{IsWalked, end_asks, end_opens, failed_asks, failed_opens, failed_told, refused_asks, refused_opens, refused_told, shown_since, shown_until, walk_asks, walk_begins, walk_ends, walk_front, walk_on, walk_opens}
 
 -- what a walk does and finds, and that it is not refused
 pub record HasWalked {S T : Type 0} (g : Ghosts S) (of : World → T) (Can : World → Type 0) (Counts : State → State → T → Type 0) (old new : Held S) (result : Result T Fault) : Type 0 where

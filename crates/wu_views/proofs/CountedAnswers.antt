@@ -8,7 +8,7 @@ use Rattle.wu_schema.proofs.CountTexts.{CountFits, Counted}
 use Rattle.wu_schema.proofs.Parts.{parts_there}
 use Rattle.wu_schema.specs.declared.table.ProjectTable.{ProjectTable}
 use Rattle.wu_schema.specs.declared.table.ProjectTable.TheVariants as the_table
-use Rattle.wu_schema.specs.ProjectTables.{IsTableOf, name_of, table_at}
+use Rattle.wu_schema.specs.ProjectTables.{IsTableOf, table_name, table_at}
 use Rattle.wu_schema.proofs.RowLemmas.{no_test}
 use Rattle.wu_schema.proofs.SelectLemmas.{Asked, Fits}
 use Rattle.wu_schema.specs.Reading.{server_state_cell}
@@ -38,8 +38,8 @@ unfolding everything
 classes_fit tree = record { tests = refl; strict = refl; height = (0, tt); few = omega arith; read = refl; typed = refl }
 
 module _ (old new : State) (world : World) (s : Refines old.now world) (rows : List Row) where
-  part_counted : (p : ProjectTable) → IsTableOf p world.version → (text : List ℕ) → ((tree : ℕ) → CountFits (name_of p) (table_at p tree) (counting text)) → Shown text [] old new rows → IsCount rows (length (old.now.trees (table_at p (s.trees p)).tree))
-  part_counted p is_in text fits h = let has = parts_there old.now world s p is_in in (all_counted (name_of p) has.0 (table_at p (s.trees p)) (counting text) old new has.1 [] rows (fits _) h).one ∙ ap (λ rs. (count (length rs) ∷ []) ∷ []) (no_test _)
+  part_counted : (p : ProjectTable) → IsTableOf p world.version → (text : List ℕ) → ((tree : ℕ) → CountFits (table_name p) (table_at p tree) (counting text)) → Shown text [] old new rows → IsCount rows (length (old.now.trees (table_at p (s.trees p)).tree))
+  part_counted p is_in text fits h = let has = parts_there old.now world s p is_in in (all_counted (table_name p) has.0 (table_at p (s.trees p)) (counting text) old new has.1 [] rows (fits _) h).one ∙ ap (λ rs. (count (length rs) ∷ []) ∷ []) (no_test _)
 
   pub workunits_counted : KnowsClasses world → Shown COUNT_WORKUNITS.now [] old new rows → IsCount rows (workunit_count world)
   workunits_counted known h =

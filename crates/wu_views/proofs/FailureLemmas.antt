@@ -23,7 +23,7 @@ use Rattle.wu_rules.specs.Instances.{is_error, is_error_outcome}
 use Rattle.wu_rules.specs.Reporting.{is_no_reply}
 use Rattle.wu_rules.specs.Sending.{is_of}
 use Rattle.wu_views.specs.Counting.{all_instances}
-use Rattle.wu_views.specs.Failures.{all_failures, by_failures, failed, failed_host, failures_of, is_unreplied, with_failures, with_host_failures, with_more, with_outcome, worst_first, Rise}
+use Rattle.wu_views.specs.Failures.{all_failures, by_failures, failures_of_host, failed_host, failures_of, is_unreplied, with_failures, with_host_failures, with_more_failures, with_outcome, worst_first, HostsRise}
 use Rattle.wu_views.specs.declared.failures.TheConstants.{MOST_HOSTS}
 use Rattle.wu_views.specs.Lines.{result_line_of, result_lines, result_lines_of}
 use Rattle.wu_views.specs.Walking.{TakesAll}
@@ -89,14 +89,14 @@ module _ (host : List ℕ) where
       let more = total is in
       omega (arith, errors, no_replies, granted, one, more)
 
-  none_failed : (is : List Instance) → AllByRecursion Differs (hosts_among (filter_map failed_host is)) → failures_of is host ≡ failed host 0 0
+  none_failed : (is : List Instance) → AllByRecursion Differs (hosts_among (filter_map failed_host is)) → failures_of is host ≡ failures_of_host host 0 0
   none_failed is other =
       let names = filter_map failed_host is in
       let none = no_grants (map grant_to names) host (ap (is_among host) (among_is names) ∙ not_among (hosts_among names) other) in
       let all = total is in
       let no_errors : (failures_of is host).errors ≡ 0 = omega (arith, none, all) in
       let none_unreplied : (failures_of is host).no_replies ≡ 0 = omega (arith, none, all) in
-      λ j. failed host (no_errors j) (none_unreplied j)
+      λ j. failures_of_host host (no_errors j) (none_unreplied j)
 
 -- ---- one instance more
 
@@ -107,19 +107,19 @@ module _ (is : List Instance) (i : Instance) where
   abbrev new : List ℕ → HostFailures
   new name = failures_of (is ++ i ∷ []) name
 
-  more : (name : List ℕ) → new name ≡ with_more (cond (is_of name i && is_error i) 1 0) (cond (is_of name i && is_unreplied i) 1 0) (old name)
+  more : (name : List ℕ) → new name ≡ with_more_failures (cond (is_of name i && is_error i) 1 0) (cond (is_of name i && is_unreplied i) 1 0) (old name)
   more name =
-      λ j. failed name (sum_by_push (λ (x : Instance). cond (is_of name x && is_error x) 1 0) is i j) (sum_by_push (λ (x : Instance). cond (is_of name x && is_unreplied x) 1 0) is i j)
+      λ j. failures_of_host name (sum_by_push (λ (x : Instance). cond (is_of name x && is_error x) 1 0) is i j) (sum_by_push (λ (x : Instance). cond (is_of name x && is_unreplied x) 1 0) is i j)
 
-  none_more : (one : HostFailures) → with_more 0 0 one ≡ one
-  none_more one = λ j. failed one.host (none one.errors j) (none one.no_replies j)
+  none_more : (one : HostFailures) → with_more_failures 0 0 one ≡ one
+  none_more one = λ j. failures_of_host one.host (none one.errors j) (none one.no_replies j)
     where
       none : (n : ℕ) → n + 0 ≡ n
       none n = omega arith
 
   -- a host that it was not at, or an end that is no failure, changes no number
   still : (name : List ℕ) → (is_of name i && is_error i) ≡ false → (is_of name i && is_unreplied i) ≡ false → new name ≡ old name
-  still name no_error replied = more name ∙ (λ j. with_more (cond (no_error j) 1 0) (cond (replied j) 1 0) (old name)) ∙ none_more (old name)
+  still name no_error replied = more name ∙ (λ j. with_more_failures (cond (no_error j) 1 0) (cond (replied j) 1 0) (old name)) ∙ none_more (old name)
 
   all_still : ((name : List ℕ) → new name ≡ old name) → (names : List (List ℕ)) → map new names ≡ map old names
   all_still same [] = refl
@@ -146,11 +146,11 @@ module _ (is : List Instance) (i : Instance) where
         let away : is_of name i ≡ false = here name ∙ nat_list_eq_equiv.symm host name ∙ differs in
         still name (ap (λ b. b && is_error i) away) (ap (λ b. b && is_unreplied i) away)
 
-    grown : new host ≡ with_more errors no_replies (old host)
-    grown = let yes : is_of host i ≡ true = here host ∙ nat_list_eq_equiv.refl host in more host ∙ (λ j. with_more (cond (yes j && is_error i) 1 0) (cond (yes j && is_unreplied i) 1 0) (old host))
+    grown : new host ≡ with_more_failures errors no_replies (old host)
+    grown = let yes : is_of host i ≡ true = here host ∙ nat_list_eq_equiv.refl host in more host ∙ (λ j. with_more_failures (cond (yes j && is_error i) 1 0) (cond (yes j && is_unreplied i) 1 0) (old host))
 
-    first : old host ≡ failed host 0 0 → new host ≡ failed host errors no_replies
-    first fresh = grown ∙ ap (with_more errors no_replies) fresh ∙ (λ j. failed host (zero-add errors j) (zero-add no_replies j))
+    first : old host ≡ failures_of_host host 0 0 → new host ≡ failures_of_host host errors no_replies
+    first fresh = grown ∙ ap (with_more_failures errors no_replies) fresh ∙ (λ j. failures_of_host host (zero-add errors j) (zero-add no_replies j))
 
     others : (names : List (List ℕ)) → AllByRecursion (Differs host) names → map new names ≡ map old names
     others [] differ = refl
@@ -160,7 +160,7 @@ module _ (is : List Instance) (i : Instance) where
     above : (m : List ℕ) (names : List (List ℕ)) → AllByRecursion (below m) names → AllByRecursion (λ name. bytes_eq name m ≡ false) names
     above m = each_so (below m) (λ name. bytes_eq name m ≡ false) (λ name low. texts_ties name m ∙ ap is_eq (turned m name Less low))
 
-    placed : (names : List (List ℕ)) → Ascends below names → (AllByRecursion (Differs host) names → old host ≡ failed host 0 0) → map new (with_host host names) ≡ with_failures host errors no_replies (map old names)
+    placed : (names : List (List ℕ)) → Ascends below names → (AllByRecursion (Differs host) names → old host ≡ failures_of_host host 0 0) → map new (with_host host names) ≡ with_failures host errors no_replies (map old names)
     placed [] up fresh = λ j. first (fresh tt) j ∷ []
     placed (m ∷ names) up fresh = by_order (order host m)
         (λ low.
@@ -168,7 +168,7 @@ module _ (is : List Instance) (i : Instance) where
         rw low (λ j. first (fresh differ) j ∷ others (m ∷ names) differ j))
         (λ tie.
         let same = one_name host m tie in
-        let one : new m ≡ with_more errors no_replies (old m) = subst (λ n. new n ≡ with_more errors no_replies (old n)) same grown in
+        let one : new m ≡ with_more_failures errors no_replies (old m) = subst (λ n. new n ≡ with_more_failures errors no_replies (old n)) same grown in
         rw tie (λ j. one j ∷ others names (subst (λ n. AllByRecursion (Differs n) names) (sym same) (above m names up.0)) j))
         (λ high.
         let differs : Differs host m = texts_ties m host ∙ ap is_eq (turned host m Greater high) in
@@ -217,7 +217,7 @@ rising is (n ∷ names) up = (each names up.0, rising is names up.1)
     each [] all = tt
     each (m ∷ names) all = (all.0, each names all.1)
 
-pub all_rise : (is : List Instance) → Rise (all_failures is)
+pub all_rise : (is : List Instance) → HostsRise (all_failures is)
 all_rise is =
     let before = filter_map failed_host is in
     ascend_pairs (λ (one other : HostFailures). below one.host other.host) (all_failures is) (rising is (hosts_among before) (once_names before))
@@ -225,13 +225,13 @@ all_rise is =
 -- ---- the lines of a world
 
 abbrev Takes : Failures → Failures → ResultLine → Type 0
-Takes old new line = Rise old.hosts.items → new.hosts.items ≡ with_outcome line.host line.outcome old.hosts.items
+Takes old new line = HostsRise old.hosts.items → new.hosts.items ≡ with_outcome line.host line.outcome old.hosts.items
 
 -- instances of one workunit, from this number on
 instances_taken : (before : List Instance) (first last : Failures) (name : List ℕ) (k : ℕ) (is : List Instance) → first.hosts.items ≡ all_failures before → TakesAll Takes first last (map (result_line_of name) (enumerate_from k is)) → last.hosts.items ≡ all_failures (before ++ is)
 instances_taken before first last name k [] at all = ap (λ (it : Failures). it.hosts.items) all ∙ at ∙ ap all_failures (sym (append-nil before))
 instances_taken before first last name k (i ∷ is) at (next, one, rest) =
-    instances_taken (before ++ i ∷ []) next last name (k + 1) is (one (subst Rise (sym at) (all_rise before)) ∙ ap (with_outcome i.host i.outcome) at ∙ sym (step before i)) rest
+    instances_taken (before ++ i ∷ []) next last name (k + 1) is (one (subst HostsRise (sym at) (all_rise before)) ∙ ap (with_outcome i.host i.outcome) at ∙ sym (step before i)) rest
     ∙ ap all_failures (append_assoc before (i ∷ []) is)
 
 -- and of workunits, one after another
@@ -254,7 +254,7 @@ module _ (host : List ℕ) where
   module _ (errors no_replies : ℕ) where
     -- a host that was found has more
     found_at : (hosts : List HostFailures) (k : ℕ) (d : HostFailures) → Ascends (λ (one other : HostFailures). below one.host other.host) hosts → k < length hosts → stands (get_or hosts k d) ≡ Equal
-        → slice_set hosts k (with_more errors no_replies (get_or hosts k d)) ≡ with_failures host errors no_replies hosts
+        → slice_set hosts k (with_more_failures errors no_replies (get_or hosts k d)) ≡ with_failures host errors no_replies hosts
     found_at [] k d up low tie = absurd (omega (arith, low))
     found_at (one ∷ hosts) zero d up low tie = rw (turned one.host host Equal tie) refl
     found_at (one ∷ hosts) (suc k) d up low tie =
@@ -264,7 +264,7 @@ module _ (host : List ℕ) where
 
     -- one that was not found comes to the place where it belongs
     missing_at : (hosts : List HostFailures) (k : ℕ) → k ≤ length hosts → ((n : ℕ) (d : HostFailures) → n < k → stands (get_or hosts n d) ≡ Less) → ((n : ℕ) (d : HostFailures) → k ≤ n → n < length hosts → stands (get_or hosts n d) ≡ Greater)
-        → insert hosts k (failed host errors no_replies) ≡ with_failures host errors no_replies hosts
+        → insert hosts k (failures_of_host host errors no_replies) ≡ with_failures host errors no_replies hosts
     missing_at [] zero within low high = refl
     missing_at [] (suc k) within low high = absurd (omega (arith, within))
     missing_at (one ∷ hosts) zero within low high = rw (turned one.host host Greater (high 0 one (omega arith) (omega arith))) refl
@@ -272,10 +272,10 @@ module _ (host : List ℕ) where
         rw (turned one.host host Less (low 0 one (omega arith))) (ap (λ hs. one ∷ hs) (missing_at hosts k (omega (arith, within)) (λ n d less. low (suc n) d (omega (arith, less))) (λ n d from less. high (suc n) d (omega (arith, from)) (omega (arith, less)))))
 
     -- as a search answers it
-    pub found_more : (hosts : List HostFailures) (k : ℕ) (d : HostFailures) → Rise hosts → k < length hosts → HoldsAt (λ one. stands one ≡ Equal) hosts k → slice_set hosts k (with_more errors no_replies (get_or hosts k d)) ≡ with_failures host errors no_replies hosts
+    pub found_more : (hosts : List HostFailures) (k : ℕ) (d : HostFailures) → HostsRise hosts → k < length hosts → HoldsAt (λ one. stands one ≡ Equal) hosts k → slice_set hosts k (with_more_failures errors no_replies (get_or hosts k d)) ≡ with_failures host errors no_replies hosts
     found_more hosts k d up low tie = found_at hosts k d (pairs_ascend (λ (one other : HostFailures). below one.host other.host) hosts up) low (tie d)
 
-    pub missing_put : (hosts : List HostFailures) (k : ℕ) → Rise hosts → k ≤ length hosts → IsBinarySearchResult stands hosts (Err k) → insert hosts k (failed host errors no_replies) ≡ with_failures host errors no_replies hosts
+    pub missing_put : (hosts : List HostFailures) (k : ℕ) → HostsRise hosts → k ≤ length hosts → IsBinarySearchResult stands hosts (Err k) → insert hosts k (failures_of_host host errors no_replies) ≡ with_failures host errors no_replies hosts
     missing_put hosts k up within found =
         let sorted : IsSorted (λ (one other : HostFailures). order one.host other.host) hosts = λ n d low high. ap is_lt (turned (get_or hosts n d).host (get_or hosts (n + 1) d).host Less (up n (n + 1) d (omega arith) high)) in
         let point = found (searchable_from_sorted nat_list_cmp_total (λ (one : HostFailures). one.host) hosts host sorted) in

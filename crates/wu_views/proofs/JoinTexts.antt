@@ -18,7 +18,7 @@ use Rattle.wu_schema.proofs.ExprLemmas.{column, lower_step, so_far}
 use Rattle.wu_schema.proofs.Parts.{parts_there, table_of}
 use Rattle.wu_schema.specs.declared.table.ProjectTable.{ProjectTable}
 use Rattle.wu_schema.specs.declared.table.ProjectTable.TheVariants as the_table
-use Rattle.wu_schema.specs.ProjectTables.{IsTableOf, name_of, table_at}
+use Rattle.wu_schema.specs.ProjectTables.{IsTableOf, table_name, table_at}
 use Rattle.wu_schema.specs.Tables.{IsClassedVersion}
 use Rattle.wu_schema.proofs.QueryLemmas.{alone}
 use Rattle.wu_schema.proofs.SelectLemmas.{CompilesTo, the}
@@ -225,26 +225,26 @@ module _ (result work : ℕ) where
 pub record JoinsParts (p r : ProjectTable) (q : AskedOfTwo) : Type 1 where
   pub question : IsQuestion q.text [] WithClasses
   pub here : (old : State) (world : World) → KnowsClasses world → (s : Refines old.now world)
-      → CompilesTo old.now.schema q.text (parsed_of (name_of p) (name_of r) (table_of s.trees p) (table_of s.trees r) q) (command.Select (alone (query_of (name_of p) (name_of r) (table_of s.trees p) (table_of s.trees r) q)) (names_of (name_of p) (name_of r) (table_of s.trees p) (table_of s.trees r) q))
+      → CompilesTo old.now.schema q.text (parsed_of (table_name p) (table_name r) (table_of s.trees p) (table_of s.trees r) q) (command.Select (alone (query_of (table_name p) (table_name r) (table_of s.trees p) (table_of s.trees r) q)) (names_of (table_name p) (table_name r) (table_of s.trees p) (table_of s.trees r) q))
 
 -- where it fits their tables, only memory, the disk or size may fail it
-joins_parts : (p r : ProjectTable) (q : AskedOfTwo) → ((version : ℕ) → IsClassedVersion version → IsTableOf p version × IsTableOf r version) → first q.text ≡ Ok (parsed_of (name_of p) (name_of r) (table_at p 0) (table_at r 0) q)
-    → ((tree other : ℕ) (schema : Schema) (at there : ℕ) (has : HasTable schema (name_of p) at (table_at p tree)) (has_other : HasTable schema (name_of r) there (table_at r other)) → FitsTwo (name_of p) (name_of r) (table_at p tree) (table_at r other) q schema at there has has_other) → JoinsParts p r q
+joins_parts : (p r : ProjectTable) (q : AskedOfTwo) → ((version : ℕ) → IsClassedVersion version → IsTableOf p version × IsTableOf r version) → first q.text ≡ Ok (parsed_of (table_name p) (table_name r) (table_at p 0) (table_at r 0) q)
+    → ((tree other : ℕ) (schema : Schema) (at there : ℕ) (has : HasTable schema (table_name p) at (table_at p tree)) (has_other : HasTable schema (table_name r) there (table_at r other)) → FitsTwo (table_name p) (table_name r) (table_at p tree) (table_at r other) q schema at there has has_other) → JoinsParts p r q
 joins_parts p r q are_in read fits =
     let fit = λ (db : Database) (world : World) (known : KnowsClasses world) (s : Refines db world).
     let are = are_in world.version known in
     let one = parts_there db world s p are.0 in
     let other = parts_there db world s r are.1 in
     fits (s.trees p) (s.trees r) db.schema one.0 other.0 one.1 other.1 in
-    let here = λ (old : State) (world : World) (known : KnowsClasses world) (s : Refines old.now world). compiles_two (name_of p) (name_of r) (table_of s.trees p) (table_of s.trees r) q old.now.schema _ _ _ _ (fit old.now world known s) in
+    let here = λ (old : State) (world : World) (known : KnowsClasses world) (s : Refines old.now world). compiles_two (table_name p) (table_name r) (table_of s.trees p) (table_of s.trees r) q old.now.schema _ _ _ _ (fit old.now world known s) in
     record {
       question = record {
-        select = record { parsed = parsed_of (name_of p) (name_of r) (table_at p 0) (table_at r 0) q; select = select_of (name_of p) (name_of r) (table_at p 0) (table_at r 0) q; read = read; is = refl };
+        select = record { parsed = parsed_of (table_name p) (table_name r) (table_at p 0) (table_at r 0) q; select = select_of (table_name p) (table_name r) (table_at p 0) (table_at r 0) q; read = read; is = refl };
         told = λ old new e h world stood unlimited.
             let (known, s) = stood in
             let one = table_of s.trees p in
             let other = table_of s.trees r in
-            query_told q.text [] old new _ _ _ (here old world known s) (omega arith) refl (accepts_two (name_of p) (name_of r) one other q old.now.schema _ _ _ _ (fit old.now world known s)) (never_over_two one.tree other.tree q.tests (terms_of (name_of p) (name_of r) one other q) q.order old.now.trees []) unlimited e h;
+            query_told q.text [] old new _ _ _ (here old world known s) (omega arith) refl (accepts_two (table_name p) (table_name r) one other q old.now.schema _ _ _ _ (fit old.now world known s)) (never_over_two one.tree other.tree q.tests (terms_of (table_name p) (table_name r) one other q) q.order old.now.trees []) unlimited e h;
       };
       here = here;
     }

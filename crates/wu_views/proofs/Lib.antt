@@ -5,7 +5,6 @@ mod LineLemmas
 mod ViewAnswers
 mod CountLemmas
 mod CountedAnswers
-mod GivenLemmas
 mod JoinAnswers
 mod ListLemmas
 pub mod ImportLemmas

@@ -5,7 +5,7 @@ use Rattle.sqlite.specs.Command.TheVariants.{Select}
 use Rattle.sqlite.specs.Given.{HasGiven}
 use Rattle.wu_schema.proofs.Parts.{parts_there}
 use Rattle.wu_schema.specs.declared.table.ProjectTable.{ProjectTable}
-use Rattle.wu_schema.specs.ProjectTables.{IsTableOf, name_of, table_at}
+use Rattle.wu_schema.specs.ProjectTables.{IsTableOf, table_name, table_at}
 use Rattle.wu_schema.proofs.QueryLemmas.{alone}
 use Rattle.wu_schema.proofs.SelectLemmas.{Asked, CompilesTo, Fits, IsTyped, compiles, names_of, parsed_of, query_of}
 use Rattle.wu_schema.specs.Tables.{IsClassedVersion}
@@ -13,8 +13,8 @@ use Rattle.wu_store.specs.StandsFor.{KnowsClasses}
 use Rattle.wu_store.specs.Reads.{WithClasses}
 use Rattle.wu_store.proofs.AskLemmas.{IsQuestion}
 use Rattle.wu_store.proofs.ClassAnswers.{class_question}
-use Rattle.wu_views.specs.Listings.{IsRowOf, Lists}
-use Rattle.wu_views.proofs.GivenLemmas.{given_front}
+use Rattle.wu_views.specs.Listings.{IsRowOfMember, Lists}
+use Rattle.wu_store.proofs.GivenLemmas.{given_front}
 
 -- ---- lists side by side
 
@@ -35,8 +35,8 @@ module _ {X A B : Type 0} (R : A → B → Type 0) where
   zip_each f g (x ∷ xs) each = zip_append R (f x) (flat_map f xs) (g x) (flat_map g xs) (each x (inl refl)) (zip_each f g xs (λ y later. each y (inr later)))
 
 -- the rows and the lines of the same things
-pub zip_rows : {X T : Type 0} (row_of : X → Row) (line_of : X → T) (all : List X) → AllZip (IsRowOf row_of line_of all) (map row_of all) (map line_of all)
-zip_rows row_of line_of all = zip_mapped (IsRowOf row_of line_of all) row_of line_of all (λ x has. record { shown = x; there = contains_had all x has; row_is = refl; line_is = refl })
+pub zip_rows : {X T : Type 0} (row_of : X → Row) (line_of : X → T) (all : List X) → AllZip (IsRowOfMember row_of line_of all) (map row_of all) (map line_of all)
+zip_rows row_of line_of all = zip_mapped (IsRowOfMember row_of line_of all) row_of line_of all (λ x has. record { shown = x; there = contains_had all x has; row_is = refl; line_is = refl })
 
 -- ---- what is known of a question
 
@@ -47,14 +47,14 @@ pub record AnswersAll (text : List ℕ) (rows_of : World → List Row) : Type 1 
   pub found : (old new : State) (rows : List Row) → Shown text [] old new rows → (world : World) → KnowsClasses world → Refines old.now world → rows ≡ rows_of world
 
 -- one over a table of the project
-module _ (p : ProjectTable) (in_p : (version : ℕ) → IsClassedVersion version → IsTableOf p version) (q : Asked) (fits : (tree : ℕ) → Fits (name_of p) (table_at p tree) q) (none : q.parameters ≡ []) (typed : (tree : ℕ) → IsTyped (name_of p) (table_at p tree) q []) where
+module _ (p : ProjectTable) (in_p : (version : ℕ) → IsClassedVersion version → IsTableOf p version) (q : Asked) (fits : (tree : ℕ) → Fits (table_name p) (table_at p tree) q) (none : q.parameters ≡ []) (typed : (tree : ℕ) → IsTyped (table_name p) (table_at p tree) q []) where
   pub answers_all : (rows_of : World → List Row) → ((old new : State) (rows : List Row) → Shown q.text [] old new rows → (world : World) → KnowsClasses world → Refines old.now world → rows ≡ rows_of world) → AnswersAll q.text rows_of
   answers_all rows_of found = record {
     question = class_question p in_p q fits [] (ap (λ (ps : List Name). length ps) (sym none)) typed;
     compiles = λ old world known s.
         let has = parts_there old.now world s p (in_p world.version known) in
         let table = table_at p (s.trees p) in
-        (parsed_of (name_of p) table q, query_of (name_of p) table q, names_of (name_of p) table q, compiles old.now.schema (name_of p) has.0 table has.1 q (fits (s.trees p)));
+        (parsed_of (table_name p) table q, query_of (table_name p) table q, names_of (table_name p) table q, compiles old.now.schema (table_name p) has.0 table has.1 q (fits (s.trees p)));
     found = found;
   }
 

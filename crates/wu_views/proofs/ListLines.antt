@@ -19,7 +19,7 @@ use Rattle.wu_store.proofs.LoadLemmas.{never_unread}
 use Rattle.wu_schema.proofs.ReadingLemmas.{is_bare, same_class}
 use Rattle.wu_views.specs.Imports.{imports_in_order}
 use Rattle.wu_views.specs.Lines.{AreHostsNamed, AreImportsStorable, IsStoredImportLine, IsStoredLine, IsStoredResult, archived_lines, class_lines, host_line_of, host_lines, import_line_of, import_lines, import_row, line_of, line_row, result_line_of, result_line_row, result_lines, workunit_lines}
-use Rattle.wu_views.specs.Listings.{IsRowOf, IsRowOfArchived, IsRowOfClass, IsRowOfHost, IsRowOfImport, IsRowOfResult, IsRowOfWorkunit, all_results_shown, archive_of, import_shown, placed_archived_row, result_shown, results_shown, workunit_shown}
+use Rattle.wu_views.specs.Listings.{IsRowOfMember, IsRowOfArchived, IsRowOfClass, IsRowOfHost, IsRowOfImport, IsRowOfResult, IsRowOfWorkunit, all_results_shown, archive_of, import_shown, placed_archived_row, result_shown, results_shown, workunit_shown}
 use Rattle.wu_schema.specs.declared.rows.HostSum.{HostSum}
 use Rattle.wu_views.specs.declared.lines.ImportLine.{ImportLine}
 use Rattle.wu_views.specs.declared.lines.ResultLine.{ResultLine}
@@ -90,7 +90,7 @@ module _ {T C : Type 0} (stored_as : T → C) (IsLine : T → Type 0) (alone : (
   line_unrefused can = never_unread stored_as IsLine stored r line reads can is
 
 -- the row of one of these things is read as its line
-module _ {X T : Type 0} (line_of : X → T) (cells : T → Row) (IsLine : T → Type 0) (alone : (a b : T) → cells a ≡ cells b → a ≡ b) (all : List X) (row : Row) (line : T) (is : IsRowOf (λ x. cells (line_of x)) line_of all row line) (r : Result T Fault) (reads : Restores cells IsLine row r) where
+module _ {X T : Type 0} (line_of : X → T) (cells : T → Row) (IsLine : T → Type 0) (alone : (a b : T) → cells a ≡ cells b → a ≡ b) (all : List X) (row : Row) (line : T) (is : IsRowOfMember (λ x. cells (line_of x)) line_of all row line) (r : Result T Fault) (reads : Restores cells IsLine row r) where
   stored_as_line : row ≡ cells line
   stored_as_line = is.row_is ∙ ap cells (sym is.line_is)
 

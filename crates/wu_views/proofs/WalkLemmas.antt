@@ -14,7 +14,7 @@ use Rattle.wu_store.specs.StandsFor.{KnowsClasses}
 use Rattle.wu_store.proofs.AskLemmas.{never_broken, never_err, never_refused, read_told}
 use Rattle.wu_views.specs.Listings.{Lists}
 use Rattle.wu_views.specs.Walking.{TakesAll, TakesFront, Walked}
-use Rattle.wu_views.proofs.GivenLemmas.{IsWalked, end_asks, end_opens, failed_asks, failed_opens, refused_asks, refused_opens, walk_asks, walk_ends, walk_on, walk_opens}
+use Rattle.wu_store.proofs.GivenLemmas.{IsWalked, end_asks, end_opens, failed_asks, failed_opens, refused_asks, refused_opens, walk_asks, walk_ends, walk_on, walk_opens}
 
 -- ---- lists side by side
 

@@ -63,20 +63,20 @@ worst_hosts world = take MOST_HOSTS (worst_first (all_failures (all_instances wo
 
 -- ---- line by line
 
-abbrev pub failed : List ℕ → (errors no_replies : ℕ) → HostFailures
-failed host errors no_replies = record { host = host; errors = errors; no_replies = no_replies }
+abbrev pub failures_of_host : List ℕ → (errors no_replies : ℕ) → HostFailures
+failures_of_host host errors no_replies = record { host = host; errors = errors; no_replies = no_replies }
 
 -- The host with so many failures more.
-abbrev pub with_more : (errors no_replies : ℕ) → HostFailures → HostFailures
-with_more errors no_replies one = record one { errors = one.errors + errors; no_replies = one.no_replies + no_replies }
+abbrev pub with_more_failures : (errors no_replies : ℕ) → HostFailures → HostFailures
+with_more_failures errors no_replies one = record one { errors = one.errors + errors; no_replies = one.no_replies + no_replies }
 
 -- The hosts in order of name, with so many failures more of one of them.
 abbrev pub with_failures : List ℕ → (errors no_replies : ℕ) → List HostFailures → List HostFailures
-with_failures host errors no_replies [] = failed host errors no_replies ∷ []
+with_failures host errors no_replies [] = failures_of_host host errors no_replies ∷ []
 with_failures host errors no_replies (one ∷ more) =
     match_ordering (slice_cmp nat_cmp host one.host)
-    (failed host errors no_replies ∷ one ∷ more)
-    (with_more errors no_replies one ∷ more)
+    (failures_of_host host errors no_replies ∷ one ∷ more)
+    (with_more_failures errors no_replies one ∷ more)
     (one ∷ with_failures host errors no_replies more)
 
 -- The hosts with an instance that was at this host, if at one, and ended so.
@@ -86,8 +86,8 @@ with_outcome (Some host) outcome hosts =
     if is_error_outcome outcome then with_failures host 1 0 hosts else if is_no_reply outcome then with_failures host 0 1 hosts else hosts
 
 -- The names of the hosts rise.
-abbrev pub Rise : List HostFailures → Type 0
-Rise hosts = AllPairs (λ (one other : HostFailures). slice_cmp nat_cmp one.host other.host ≡ Less) hosts
+abbrev pub HostsRise : List HostFailures → Type 0
+HostsRise hosts = AllPairs (λ (one other : HostFailures). slice_cmp nat_cmp one.host other.host ≡ Less) hosts
 
 -- The hosts of which instances failed are found.
 abbrev pub FindsFailures : {A : Type 0} → Result (Vec HostFailures A) Fault → World → Type 0

@@ -26,7 +26,7 @@ use Rattle.wu_views.specs.declared.lines.ResultLine.{ResultLine}
 use Rattle.wu_views.specs.declared.lines.WorkunitLine.{WorkunitLine}
 
 -- The row and the line are those of one of these.
-pub record IsRowOf {X T : Type 0} (row_of : X → Row) (line_of : X → T) (all : List X) (row : Row) (line : T) : Type 0 where
+pub record IsRowOfMember {X T : Type 0} (row_of : X → Row) (line_of : X → T) (all : List X) (row : Row) (line : T) : Type 0 where
   pub shown : X
   pub there : Contains all shown
   pub row_is : row ≡ row_of shown
@@ -52,7 +52,7 @@ workunit_shown w = line_row (line_of w)
 
 -- The row and the line are those of a workunit of the world.
 abbrev pub IsRowOfWorkunit : World → Row → WorkunitLine → Type 0
-IsRowOfWorkunit world = IsRowOf workunit_shown line_of world.workunits
+IsRowOfWorkunit world = IsRowOfMember workunit_shown line_of world.workunits
 
 -- ---- results
 
@@ -72,13 +72,13 @@ all_results_shown world = flat_map results_shown world.workunits
 pub record IsRowOfResult (world : World) (row : Row) (line : ResultLine) : Type 0 where
   pub workunit : Workunit
   pub present : Contains world.workunits workunit
-  pub of : IsRowOf (result_shown workunit.name) (result_line_of workunit.name) (enumerate_from 0 workunit.instances) row line
+  pub of : IsRowOfMember (result_shown workunit.name) (result_line_of workunit.name) (enumerate_from 0 workunit.instances) row line
 
 -- ---- hosts
 
 -- The row and the line are those of a host of the world.
 abbrev pub IsRowOfHost : World → Row → HostSum → Type 0
-IsRowOfHost world = IsRowOf (host_of world.grants) (host_line_of world.grants) (hosts_of world.grants)
+IsRowOfHost world = IsRowOfMember (host_of world.grants) (host_line_of world.grants) (hosts_of world.grants)
 
 -- ---- the archive
 
@@ -92,13 +92,13 @@ archive_of world = enumerate_from 1 world.archived
 
 -- The row is that of this archived workunit of the world.
 abbrev pub IsRowOfArchived : World → Row → Archived → Type 0
-IsRowOfArchived world = IsRowOf placed_archived_row (λ (p : ℕ × Archived). p.1) (archive_of world)
+IsRowOfArchived world = IsRowOfMember placed_archived_row (λ (p : ℕ × Archived). p.1) (archive_of world)
 
 -- ---- classes of hosts
 
 -- The row is that of this host with a class.
 abbrev pub IsRowOfClass : World → Row → HostClass → Type 0
-IsRowOfClass world = IsRowOf class_cells (λ (it : HostClass). it) world.classes
+IsRowOfClass world = IsRowOfMember class_cells (λ (it : HostClass). it) world.classes
 
 -- ---- imports
 
@@ -108,4 +108,4 @@ import_shown import = import_row (import_line_of import)
 
 -- The row and the line are those of an import of the world.
 abbrev pub IsRowOfImport : World → Row → ImportLine → Type 0
-IsRowOfImport world = IsRowOf import_shown import_line_of (imports_in_order world.imports)
+IsRowOfImport world = IsRowOfMember import_shown import_line_of (imports_in_order world.imports)

@@ -8,7 +8,7 @@ ghost use Rattle.std.specs.Ordering.{nat_cmp};
 ghost use Rattle.wu_core.specs.declared.fault.Fault.TheVariants.{Output};
 ghost use Rattle.wu_core.specs.Storable.{AreStorable};
 ghost use Rattle.wu_store.specs.Reads.{ReadsClassed};
-ghost use Rattle.wu_views.specs.Failures.{by_failures, failed, with_failures, with_host_failures, with_more, worst_first, FindsFailures, FindsWorstHosts, Rise};
+ghost use Rattle.wu_views.specs.Failures.{by_failures, failures_of_host, with_failures, with_host_failures, with_more_failures, worst_first, FindsFailures, FindsWorstHosts, HostsRise};
 
 use crate::lines::ResultLine;
 use crate::listings::ResultListing;
@@ -86,7 +86,7 @@ fn search(hosts: &[HostFailures], name: &Name) -> Result<usize, usize>
 impl HostFailures {
     /// Adds failures. Returns `Output` if a number does not fit.
     fn add(&mut self, errors: u64, no_replies: u64) -> Result<(), Fault>
-        ensures added { OnOk result (self.new ≡ with_more errors no_replies self.old) }
+        ensures added { OnOk result (self.new ≡ with_more_failures errors no_replies self.old) }
         ensures fault { IsOkUnless result Output }
     {
         self.errors = sum(self.errors, errors)?;
@@ -112,7 +112,7 @@ impl Failures {
     ) -> Result<(), Fault>
         requires { place ≤ length self.old.hosts.items }
         ensures inserted { OnOk result (self.new.hosts.items
-            ≡ insert self.old.hosts.items place (failed name.now errors no_replies)) }
+            ≡ insert self.old.hosts.items place (failures_of_host name.now errors no_replies)) }
         ensures fault { IsOkUnless result Output }
     {
         let Ok(host) = name.copy() else {
@@ -131,7 +131,7 @@ impl Failures {
 
     /// Adds failures of a host. Returns `Output` where there is no memory, or a number does not fit.
     fn add(&mut self, name: &Name, errors: u64, no_replies: u64) -> Result<(), Fault>
-        ensures added { OnOk result (Rise self.old.hosts.items → self.new.hosts.items
+        ensures added { OnOk result (HostsRise self.old.hosts.items → self.new.hosts.items
             ≡ with_failures name.now errors no_replies self.old.hosts.items) }
         ensures fault { IsOkUnless result Output }
     {
@@ -144,9 +144,9 @@ impl Failures {
 
 impl Takes<ResultLine> for Failures {
     ghost use Rattle.std.specs.Prelude.{◌≡◌, ⊤};
-    ghost use Rattle.wu_views.specs.Failures.{with_outcome, Rise};
+    ghost use Rattle.wu_views.specs.Failures.{with_outcome, HostsRise};
 
-    ghost takes = { λ old new line. Rise old.hosts.items → new.hosts.items ≡ with_outcome line.host line.outcome old.hosts.items };
+    ghost takes = { λ old new line. HostsRise old.hosts.items → new.hosts.items ≡ with_outcome line.host line.outcome old.hosts.items };
 
     ghost refuses = { λ old new line. ⊤ };
 

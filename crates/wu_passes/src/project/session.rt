@@ -8,7 +8,7 @@ ghost use Rattle.wu_machine.specs.Commands.{request_of};
 ghost use Rattle.wu_machine.specs.Sound.{IsProject};
 ghost use Rattle.wu_passes.specs.Standing.{IsCutBy};
 ghost use Rattle.wu_passes.specs.Adopting.{Adopts, KnowsVersion, older_than_present, RefusesAdoption, TellsNew};
-ghost use Rattle.wu_passes.specs.Projects.{AnswersEnded, BeginsSession, CarriesOut, CarriesOutFrom, connection_of, FailsAgain, GoesOnAgain, IsSessionOpen, has_ended, is_new, IsSessionEnded, KeepsAsking, KeepsSession, KeepsVersion, LeavesIdle, LeavesUntouched, PlansOn, RefusesEarly, RunsOver, refused_for, ServesOn, ServesRight, older_version, state_of, TellsWhy};
+ghost use Rattle.wu_passes.specs.Projects.{AnswersEnded, BeginsSession, CarriesOut, CarriesOutFrom, connection_of, FailsAgain, GoesOnAgain, IsSessionOpen, has_ended, is_new_project, IsSessionEnded, KeepsAsking, KeepsSession, KeepsVersion, LeavesIdle, LeavesUntouched, PlansOn, RefusesEarly, RunsOver, refused_for, ServesOn, ServesRight, older_version, state_of, TellsWhy};
 
 use crate::commit::change_all;
 use crate::project::Project;
@@ -207,7 +207,7 @@ impl<S: Alter> Project<S> {
     /// Returns whether the adoption of this session made the project.
     pub fn is_new(&self) -> bool
         // The answer is whether the project was made.
-        ensures { result ≡ is_new self.now }
+        ensures { result ≡ is_new_project self.now }
     {
         self.is_new
     }

@@ -1,6 +1,6 @@
 use Rattle.wu_schema.proofs.Words.{IsPermutation, IsPermutation-map, IsPermutation-sym, IsPermutation-trans, arith, class_cells, inl, inr, map, refl, subst, sym, ◌+◌, ◌-◌, ◌∙◌, ◌≡◌}
 use Rattle.std.proofs.lemmas.List.Sorted.{All-permutation}
-use Rattle.wu_loader.specs.Classing.{by_host, AreRising}
+use Rattle.wu_loader.specs.Classing.{by_classed_host, AreRising}
 use Rattle.wu_schema.specs.Reading.{IsStoredHostClass}
 use Rattle.wu_loader.specs.Whole.{IsNotAbove}
 use Rattle.wu_loader.proofs.ClassLemmas.{rising_in_order, rising_must}
@@ -39,13 +39,13 @@ returns-in_err-classes-clause-told c = handed c.from_residual.result c.in_err-cl
 pub returns-in-Some-clause-told : goal.returns-in-Some-clause-told
 returns-in-Some-clause-told c =
     let classes = c.sort.new.classes.items in
-    let twice : IsNotAbove by_host classes c.in-Some.wrong = rw c.deref.ensures.value at c.in-Some.ensures.told in
+    let twice : IsNotAbove by_classed_host classes c.in-Some.wrong = rw c.deref.ensures.value at c.in-Some.ensures.told in
     let e : c.in-Some.wrong ≡ c.in-Some.wrong + 1 - 1 = omega arith in (
       refl,
       inr (record {
         classes = classes;
-        read = sorted_rows class_cells IsStoredHostClass by_host c.args.rows c.in_ok-classes.classes.items classes c.in_ok-classes.ensures.same c.in_ok-classes.ensures.each c.in_ok-sort.ensures.same c.in_ok-sort.ensures.sorted;
+        read = sorted_rows class_cells IsStoredHostClass by_classed_host c.args.rows c.in_ok-classes.classes.items classes c.in_ok-classes.ensures.same c.in_ok-classes.ensures.each c.in_ok-sort.ensures.same c.in_ok-sort.ensures.sorted;
         counted = omega arith;
-        twice = subst (IsNotAbove by_host classes) e twice;
+        twice = subst (IsNotAbove by_classed_host classes) e twice;
       }),
     )

@@ -1,4 +1,4 @@
-use Rattle.wu_schema.proofs.Words.{ℕ, List, Row, Workunit, inl, inr, map, subst, sym, workunit_row, ◌∙◌, ◌≡◌}
+use Rattle.wu_schema.proofs.Words.{List, Row, Workunit, inl, inr, map, workunit_row, ◌∙◌, ◌≡◌}
 use Rattle.wu_store.specs.Loading.{classless}
 use Rattle.std.specs.Prelude.{All}
 use Rattle.wu_core.specs.Storable.{IsStoredWorkunit}

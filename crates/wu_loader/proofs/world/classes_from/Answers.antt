@@ -1,13 +1,11 @@
-use Rattle.wu_schema.proofs.Words.{IsPermutation, List, Option, Row, class_cells, inl, inr, map, subst, sym, workunit_row, ◌∙◌, ◌≡◌}
-use Rattle.wu_loader.specs.Rows.{classed_row, IsStoredClass}
+use Rattle.wu_schema.proofs.Words.{IsPermutation, List, Option, Row, class_cells, inl, inr, map, subst, sym, workunit_row, ◌∙◌}
+use Rattle.wu_loader.specs.Rows.{classed_row}
 use Rattle.wu_schema.specs.Reading.{IsStoredHostClass}
-use Rattle.wu_loader.specs.Whole.{IsNoRow}
 use Rattle.wu_loader.specs.Worlds.{AreAnyClassRowsOf, HasClassesOf}
 use Rattle.std.specs.Prelude.{All}
 use Rattle.wu_core.specs.Classes.{AreInOrder}
 use Rattle.wu_core.specs.declared.workunit.HostClass.{HostClass}
 use Rattle.wu_loader.specs.First.{AreHostClasses, IsFirstClass}
-use Rattle.wu_loader.specs.Wrongs.{IsWrongHostClass}
 use Rattle.wu_loader.specs.declared.tables.ClassRows.{ClassRows}
 use Rattle.wu_loader.proofs.ClassLemmas.{differs_keys, found_classes, found_none, never_classed, never_others}
 use Rattle.wu_loader.proofs.WholeLemmas.{handed, rows_plain}

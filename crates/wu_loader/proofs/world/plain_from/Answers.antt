@@ -2,7 +2,7 @@ use Rattle.wu_schema.proofs.Words.{ℕ, Grant, IsPermutation, IsPermutation-refl
 use Rattle.std.specs.Prelude.{All}
 use Rattle.wu_core.specs.Storable.{IsStoredArchived}
 use Rattle.wu_schema.specs.Refines.{host_of}
-use Rattle.wu_loader.specs.Rows.{archived_row, grant_row, IsStoredGrant, IsStoredImport}
+use Rattle.wu_loader.specs.Rows.{archived_row_at, grant_row, IsStoredGrant, IsStoredImport}
 use Rattle.wu_loader.specs.Whole.{rows_of, AreOfValues}
 use Rattle.wu_loader.specs.Worlds.{project_of}
 use Rattle.wu_loader.specs.First.{AreRightBefore}
@@ -36,7 +36,7 @@ returns-in_err-know_hosts-clause-none c =
 
 pub returns-in_err-archived-clause-none : goal.returns-in_err-archived-clause-none
 returns-in_err-archived-clause-none c =
-    handed c.from_residual-in_err-archived.result c.in_err-archived.field-0.0 _ _ (λ wrong none world readable version ordered are. no_rows archived_row IsStoredArchived _ wrong.place none.1 world.archived readable.archived are.archived)
+    handed c.from_residual-in_err-archived.result c.in_err-archived.field-0.0 _ _ (λ wrong none world readable version ordered are. no_rows archived_row_at IsStoredArchived _ wrong.place none.1 world.archived readable.archived are.archived)
     c.from_residual-in_err-archived.ensures.1 c.in_err-archived.ensures.none
 
 pub returns-in_err-imports-clause-none : goal.returns-in_err-imports-clause-none
@@ -87,7 +87,7 @@ before_archived c so_far =
 before_imports : (c : In_ok-archived) → AreRightBefore c.args.version c.args.rows 5 → AreRightBefore c.args.version c.args.rows 6
 before_imports c so_far =
     let it = c.in_ok-archived in
-    more_before c.args.version c.args.rows the_table.Archived (values_read archived_row IsStoredArchived it.archived.items it.ensures.each it.ensures.same) so_far
+    more_before c.args.version c.args.rows the_table.Archived (values_read archived_row_at IsStoredArchived it.archived.items it.ensures.each it.ensures.same) so_far
 
 pub returns-in_err-project-clause-told : goal.returns-in_err-project-clause-told
 returns-in_err-project-clause-told c =

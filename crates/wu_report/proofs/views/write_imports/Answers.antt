@@ -1,49 +1,13 @@
-use Rattle.std.proofs.Common.{◌∙◌, flat_map, rules, subst}
-use Rattle.wu_store.proofs.AskLemmas.{handed_on}
-use Rattle.wu_report.proofs.ViewLemmas.{never_output, other_fault, outputs_cut}
-use Rattle.wu_report.proofs.WalkedLemmas.{present_answer, present_done, present_output}
-use Rattle.wu_report.proofs.WritingLemmas.{AppendsFront-nothing, Writes-failed}
+use Rattle.std.proofs.Common.{◌∙◌, ap, flat_map}
+use Rattle.wu_report.proofs.LookLemmas.{looked_refused, looked_written}
 use Rattle.wu_report.specs.Texts.{import_detail}
-use Rattle.wu_report.specs.Views.{CutsOutput}
-use Rattle.wu_report.specs.Writing.{WritesTo}
-use Rattle.wu_passes.proofs.StandingLemmas.{refused_open}
-use Rattle.wu_passes.specs.Projects.{state_of}
 use Rattle.wu_report.proofs.views.write_imports.Goals as goal
 
 pub returns : goal.returns
-returns g c = record {
-  early = search rules;
-  reads = search rules;
-  opens = search rules;
-  text = λ going clean world knows shows.
-      let present = present_done c.args.project.now c.imports_named.new.self c.in_ok-lines.lines going c.in_ok-lines.ensures.early in
-      let is = c.in_ok-lines.ensures.found clean world (shows ((c.imports_named.ensures.asks.back clean).was_open (c.in_ok-lines.ensures.opens going present clean))).0.refines in
-      subst (λ lines. WritesTo g.W.Write.contents c.args.out.now c.write_details.new.out (flat_map import_detail lines) c.write_details.result) (c.as_slice.ensures.value ∙ is) c.write_details.ensures.bytes;
-  cut = λ going clean world knows shows.
-      let present = present_done c.args.project.now c.imports_named.new.self c.in_ok-lines.lines going c.in_ok-lines.ensures.early in
-      let is = c.in_ok-lines.ensures.found clean world (shows ((c.imports_named.ensures.asks.back clean).was_open (c.in_ok-lines.ensures.opens going present clean))).0.refines in
-      subst (λ lines. CutsOutput (g.W.Write.contents c.args.out.now) (g.W.Write.contents c.write_details.new.out) (flat_map import_detail lines) c.write_details.result) (c.as_slice.ensures.value ∙ is)
-      (outputs_cut (g.W.Write.contents c.args.out.now) (g.W.Write.contents c.write_details.new.out) (flat_map import_detail c.as_slice.result.now) c.write_details.result c.write_details.ensures.cut);
-  fault = search rules;
-  unrefused = search rules;
-  broke = search rules;
-}
+returns g c =
+    looked_written g.W.Write.contents c.args.project.now c.imports_named.new.self (λ db world knows stands. stands.refines) _ c.in_ok-lines.lines c.in_ok-lines.ensures c.args.out.now c.write_details.new.out _ c.write_details.result
+    (λ world is. ap (flat_map import_detail) (c.as_slice.ensures.value ∙ is)) c.write_details.ensures.bytes c.write_details.ensures.cut c.write_details.ensures.fault
 
 pub returns-in_err-lines : goal.returns-in_err-lines
-returns-in_err-lines g c = record {
-  early = search rules;
-  reads = search rules;
-  opens = search rules;
-  text = λ going clean world knows shows. Writes-failed _ _ _ c.from_residual.result c.from_residual.ensures.0 (AppendsFront-nothing _ _);
-  cut = λ going clean world knows shows.
-      other_fault _ _ _ c.from_residual.result c.in_err-lines.field-0.0 c.from_residual.ensures.1 (λ is.
-      let present = present_output c.args.project.now c.imports_named.new.self c.in_err-lines.field-0.0 going c.in_err-lines.ensures.early is in
-      never_output c.in_err-lines.field-0.0 (c.in_err-lines.ensures.fault going present) is);
-  fault = search rules;
-  unrefused = λ going clean unlimited world knows can shows.
-      handed_on c.from_residual.result c.in_err-lines.field-0.0 c.from_residual.ensures.1 (λ refused.
-      let present = present_answer c.args.project.now c.imports_named.new.self c.in_err-lines.field-0.0 going c.in_err-lines.ensures.early refused in
-      let still = refused_open (state_of c.imports_named.new.self) c.in_err-lines.field-0.0 refused (c.in_err-lines.ensures.opens going present clean) in
-      c.in_err-lines.ensures.unrefused going clean world (shows ((c.imports_named.ensures.asks.back clean).was_open still)).0.refines can unlimited refused);
-  broke = search rules;
-}
+returns-in_err-lines g c =
+    looked_refused g.W.Write.contents c.args.project.now c.imports_named.new.self (λ db world knows stands. stands.refines) _ c.args.out.now c.in_err-lines.field-0.0 c.from_residual.result c.from_residual.ensures.0 c.from_residual.ensures.1 c.in_err-lines.ensures

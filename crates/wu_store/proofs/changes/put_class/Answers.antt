@@ -1,6 +1,6 @@
 use Rattle.wu_schema.proofs.Words.{Refines, subst}
 use Rattle.wu_schema.proofs.CallLemmas.{ok_on}
-use Rattle.wu_store.specs.Changes.{keeping, with_replaced}
+use Rattle.wu_store.specs.Changes.{keeping_instances, with_replaced}
 use Rattle.wu_store.proofs.ReplaceLemmas.{class_kept, class_replaced}
 use Rattle.wu_store.proofs.SpareLemmas.{of_class}
 use Rattle.wu_schema.proofs.OthersLemmas.{spares_none}
@@ -12,8 +12,8 @@ returns-clause-puts g c clean =
     let was = c.args.was.now in
     let w = c.args.workunit.now in
     ok_on c.set_class.result _ _ (λ sets world known s. (
-      subst (Refines _) (class_replaced w world was) (sets.stands (with_replaced (keeping was w) world) known s),
-      λ marked q. sets.queue (with_replaced (keeping was w) world) marked known s q,
+      subst (Refines _) (class_replaced w world was) (sets.stands (with_replaced (keeping_instances was w) world) known s),
+      λ marked q. sets.queue (with_replaced (keeping_instances was w) world) marked known s q,
     )) (c.set_class.ensures.sets clean)
 
 pub returns-then-was-workunit-clause-puts : goal.returns-then-was-workunit-clause-puts

@@ -5,7 +5,7 @@ use Rattle.wu_core.specs.declared.fault.Fault.TheVariants.{Memory}
 use Rattle.wu_views.specs.Summaries.{CountsCredit, IsCreditCountable, granted_of}
 use Rattle.wu_views.proofs.CountedAnswers.{credit_asked, credit_question}
 use Rattle.wu_views.proofs.CountWalks.{credit_past, credit_unread, grants_at, grants_whole, none_summed, one_summed, walked_failed, walked_handed, walked_left, walked_refused}
-use Rattle.wu_views.proofs.GivenLemmas.{refused_so}
+use Rattle.wu_store.proofs.GivenLemmas.{refused_so}
 use Rattle.wu_views.proofs.counts.count_grants.Goals as goal
 
 pub returns-in-Err : goal.returns-in-Err

@@ -5,7 +5,7 @@ use Rattle.wu_core.specs.declared.fault.Fault.TheVariants.{Memory}
 use Rattle.wu_views.specs.Summaries.{CountsStates, results_of}
 use Rattle.wu_views.proofs.CountedAnswers.{states_asked, states_question}
 use Rattle.wu_views.proofs.CountWalks.{none_counted, one_counted, room, state_unread, states_at, states_whole, walked_failed, walked_handed, walked_left, walked_refused}
-use Rattle.wu_views.proofs.GivenLemmas.{refused_so}
+use Rattle.wu_store.proofs.GivenLemmas.{refused_so}
 use Rattle.wu_views.proofs.counts.count_results.Goals as goal
 
 pub returns-in-Err : goal.returns-in-Err

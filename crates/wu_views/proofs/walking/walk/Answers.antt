@@ -1,7 +1,7 @@
 use Rattle.std.proofs.Common.{[], refl, rules, sym, ◌∙◌}
 use Rattle.wu_schema.proofs.Words.{err_from_is_err_and}
 use Rattle.sqlite.specs.Given.{row_if}
-use Rattle.wu_views.proofs.GivenLemmas.{walk_begins}
+use Rattle.wu_store.proofs.GivenLemmas.{walk_begins}
 use Rattle.wu_views.proofs.WalkLemmas.{begun, broken_off, done, endless, handed, never_begun, stopped, taken, unread}
 use Rattle.wu_views.proofs.walking.walk.Goals as goal
 

@@ -13,7 +13,7 @@ use Rattle.wu_schema.specs.Asking.{Asks, IsSelect, ServesUnlessFailed}
 use Rattle.wu_schema.proofs.AskingLemmas.{asks_failed, asks_read, asks_then, opens_failed, opens_read, unchanged_then}
 use Rattle.wu_schema.proofs.Parts.{parts_there}
 use Rattle.wu_schema.specs.declared.table.ProjectTable.{ProjectTable}
-use Rattle.wu_schema.specs.ProjectTables.{IsTableOf, name_of, table_at}
+use Rattle.wu_schema.specs.ProjectTables.{IsTableOf, table_name, table_at}
 use Rattle.wu_schema.proofs.QueryLemmas.{alone}
 use Rattle.wu_schema.proofs.QuietLemmas.{same_ok}
 use Rattle.wu_schema.proofs.ReadLemmas.{reads_survive, shows_none}
@@ -179,9 +179,9 @@ given_front g text select params old now given same gave p q names it =
     (whole.0, shown_since text select params (given ++ whole.0) (state g old) (state g now) (state g now) same whole.1)
 
 -- over tables that stand for a world
-module _ (p : ProjectTable) (q : Asked) (fits : (tree : ℕ) → Fits (name_of p) (table_at p tree) q) {S : Type 0} (g : Ghosts S) (select : IsSelect q.text) (params : Row) (old now : Held S) (given : List Row) (walk : IsWalked g q.text params old now given) (world : World) (in_p : IsTableOf p world.version)
+module _ (p : ProjectTable) (q : Asked) (fits : (tree : ℕ) → Fits (table_name p) (table_at p tree) q) {S : Type 0} (g : Ghosts S) (select : IsSelect q.text) (params : Row) (old now : Held S) (given : List Row) (walk : IsWalked g q.text params old now given) (world : World) (in_p : IsTableOf p world.version)
     (stands : Refines (state g old).now world) where
   pub walk_front : HasCleanDisk (state g now) → (tail : List Row) × Shown q.text params (state g old) (state g now) (given ++ tail)
   walk_front clean =
       let has = parts_there (state g old).now world stands p in_p in
-      given_front g q.text select params old now given (walk.same clean) (walk.gave clean) _ _ _ (compiles (state g old).now.schema (name_of p) has.0 (table_at p (stands.trees p)) has.1 q (fits (stands.trees p)))
+      given_front g q.text select params old now given (walk.same clean) (walk.gave clean) _ _ _ (compiles (state g old).now.schema (table_name p) has.0 (table_at p (stands.trees p)) has.1 q (fits (stands.trees p)))

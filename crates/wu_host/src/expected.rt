@@ -1,9 +1,9 @@
 //! How many answers a line or a script gives, as far as its words say so before it is done. The progress line shows it,
 //! and no clause speaks of it.
 
-use crate::files::HostFiles;
+use crate::file::read_file;
 use std::fs;
-use wu_arguments::{Asking, Order, ReadFile, ScriptFile};
+use wu_arguments::{Asking, Order, ScriptFile};
 use wu_feed::{LONGEST_FILE, ScriptLine, read_script};
 
 /// How many answers a cycle gives: one a pass.
@@ -45,7 +45,7 @@ fn of_script(rt: &HostRuntime, script: &ScriptFile) -> Option<Expected> {
     if !fs::metadata(rt, path).ok()?.is_file() {
         return None;
     }
-    let text = HostFiles::new(rt).read(path, LONGEST_FILE).ok()??;
+    let text = read_file(rt, path, LONGEST_FILE).ok()??;
     let lines = read_script(rt.alloc(), text.as_slice()).ok()?;
     let mut expected = Expected {
         answers: 0,

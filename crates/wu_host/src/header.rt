@@ -1,7 +1,5 @@
 //! What the header of a database says, before it is opened. It stands in the first bytes of the first page.
 
-use wu_cli::Reason;
-
 /// The first byte of a database with a header.
 const BEGINS: u8 = b'S';
 
@@ -101,16 +99,13 @@ fn first_page<'a>(log: &'a [u8], db: &'a [u8]) -> &'a [u8] {
     page
 }
 
-/// Refuses a database of a kind that the store does not read: with auto-vacuum, or with texts in UTF-16. One that has no
-/// header yet is not refused.
-pub fn refuse_other_kind(log: &[u8], db: &[u8]) -> Result<(), Reason> {
+/// Returns whether a database is of a kind that the store does not read: with auto-vacuum, or with texts in UTF-16. One
+/// that has no header yet is not.
+pub fn is_other_kind(log: &[u8], db: &[u8]) -> bool {
     let page = first_page(log, db);
     let has_vacuum = number_at(page, LARGEST_ROOT).is_some_and(|root| root > 0);
     let has_utf16 = number_at(page, ENCODING).is_some_and(|encoding| encoding > UTF_8);
-    if has_vacuum || has_utf16 {
-        return Err(Reason::OtherKind);
-    }
-    Ok(())
+    has_vacuum || has_utf16
 }
 
 /// Returns whether a text in the page makes the table `project`.

@@ -3,12 +3,11 @@
 ghost use Rattle.std.specs.Prelude.{◌≡◌, IfErr};
 ghost use Rattle.wu_core.specs.declared.fault.Fault.TheVariants.{Memory};
 
-use crate::files::HostFiles;
+use crate::file::read_file;
 use crate::header::{LARGEST_SIZE, SHORTEST_LOG, drops_project, has_other_pages};
 use std::alloc::AllocError;
 use std::fs;
 use std::io::ErrorKind;
-use wu_arguments::ReadFile;
 use wu_core::Fault;
 
 /// The bytes with which each database begins, after its first one.
@@ -109,7 +108,7 @@ fn may_be_unmade(bytes: &[u8]) -> bool {
 
 /// Returns whether what lies at the path may be what a stop left of a new database, as far as that can be found out.
 fn is_unmade(rt: &HostRuntime, path: &str) -> bool {
-    match HostFiles::new(rt).read(path, HEADER_REST.len()) {
+    match read_file(rt, path, HEADER_REST.len()) {
         Ok(Some(bytes)) => may_be_unmade(&bytes),
         _ => true,
     }
@@ -139,7 +138,7 @@ pub fn is_foreign(rt: &HostRuntime, path: &str) -> Result<bool, Fault>
         return Ok(false);
     }
     // Of a longer file one byte more is read.
-    let Some(bytes) = HostFiles::new(rt).read(path, HEADER_REST.len())? else {
+    let Some(bytes) = read_file(rt, path, HEADER_REST.len())? else {
         return Ok(false);
     };
     match bytes.first() {
@@ -163,10 +162,9 @@ fn is_log_of_another(rt: &HostRuntime, log: &str, path: &str) -> Result<bool, Fa
     if len_at(rt, log) < SHORTEST_LOG || is_no_file(rt, path) {
         return Ok(false);
     }
-    let files = HostFiles::new(rt);
     match (
-        files.read(log, LOOKED_AT)?,
-        files.read(path, LARGEST_SIZE as usize)?,
+        read_file(rt, log, LOOKED_AT)?,
+        read_file(rt, path, LARGEST_SIZE as usize)?,
     ) {
         (Some(log), Some(db)) => Ok(has_other_pages(&log, &db) || drops_project(&log, &db)),
         _ => Ok(false),
@@ -183,7 +181,7 @@ pub fn has_foreign_log(rt: &HostRuntime, path: &str) -> Result<bool, Fault>
         return Ok(true);
     }
     let log = format!(in rt.alloc(); "{path}-wal")?;
-    let Some(bytes) = HostFiles::new(rt).read(log.as_str(), 0)? else {
+    let Some(bytes) = read_file(rt, log.as_str(), 0)? else {
         return Ok(false);
     };
     match bytes.first() {

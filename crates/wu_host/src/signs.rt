@@ -4,7 +4,7 @@
 //! wipe has none. Where rows were skipped, a line stays that says where to read on.
 
 ghost use Rattle.std.specs.Prelude.{◌≡◌};
-ghost use Rattle.wu_process.specs.Signs.{handed_on};
+ghost use Rattle.wu_host.specs.Signs.{handed_on};
 
 use crate::expected::Expected;
 use std::io::{self, Write};
@@ -342,7 +342,7 @@ impl<E: Write + Drop> Cleared<E> {
 }
 
 impl<E: Write + Drop> Write for Cleared<E> {
-    ghost use Rattle.wu_process.specs.Signs.{handed_on};
+    ghost use Rattle.wu_host.specs.Signs.{handed_on};
 
     // It hands on what it is given and nothing else, except where a line of a terminal has to be
     // wiped first.
