@@ -2,6 +2,7 @@ pub mod Against
 pub mod Examples
 pub mod Keys
 pub mod Laws
+pub mod LoadedWorlds
 pub mod Parts
 pub mod Places
 pub mod Records

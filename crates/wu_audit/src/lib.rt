@@ -16,5 +16,5 @@ mod workunits;
 mod wrong;
 
 pub use auditing::audit;
-pub use loaded::{Imported, Loaded};
+pub use loaded::{Imported, Loaded, LoadedParts};
 pub use wrong::{AuditTable, Wrong};

@@ -2,6 +2,7 @@
 
 ghost use Rattle.std.specs.Prelude.{◌≡◌, ◌≤◌, ◌<◌, ◌^◌, ◌↔◌, true, IsTrue};
 ghost use Rattle.wu_core.specs.Names.{is_name};
+ghost use Rattle.wu_audit.specs.LoadedWorlds.{world_of_parts};
 ghost use Rattle.wu_core.specs.World.{World, Import, MayBeKept};
 
 use std::marker::Model;
@@ -156,6 +157,17 @@ impl Model for Loaded {
     } };
 }
 
+/// The parts of a world held in memory, apart from its imports.
+#[derive(Drop)]
+pub struct LoadedParts {
+    pub workunits: Vec<Workunit>,
+    pub grants: Vec<Grant>,
+    pub archived: Vec<Archived>,
+    pub classes: Vec<HostClass>,
+    pub next_number: u64,
+    pub version: u64,
+}
+
 impl Loaded {
     /// Makes the world with these.
     pub fn new(
@@ -247,5 +259,30 @@ impl Loaded {
         ensures { result ≡ self.now.version }
     {
         self.version
+    }
+
+    /// Returns the parts of the world. Its imports come apart from the others, since changes may borrow their contents.
+    pub fn into_parts(self) -> (LoadedParts, Vec<Imported>)
+        // The world is that of these parts and imports.
+        ensures { world_of_parts result.0 result.1.items ≡ self }
+    {
+        let Loaded {
+            workunits,
+            grants,
+            archived,
+            imports,
+            classes,
+            next_number,
+            version,
+        } = self;
+        let parts = LoadedParts {
+            workunits,
+            grants,
+            archived,
+            classes,
+            next_number,
+            version,
+        };
+        (parts, imports)
     }
 }

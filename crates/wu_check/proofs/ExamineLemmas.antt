@@ -5,7 +5,7 @@ use Rattle.std.specs.Prelude.{IfSome}
 use Rattle.std.proofs.lemmas.Result.{IfOk-weaker}
 use Rattle.wu_core.specs.declared.fault.Fault.TheVariants.{Memory, NotAProject}
 use Rattle.wu_loader.specs.Asked.{IsAnsweredUnlessFailed, LooksAtTables}
-use Rattle.wu_loader.specs.Finding.{FindsNone, FindsRow, FindsWorld}
+use Rattle.wu_loader.specs.Finding.{LoadsTables}
 use Rattle.wu_schema.specs.Faults.{IsFailure, IsStoreFault}
 use Rattle.wu_store.specs.StandsFor.{IsQueued}
 use Rattle.wu_loader.specs.declared.finding.Found.{Found}
@@ -126,24 +126,24 @@ abbrev pub TellsOfVersion : ℕ → Database → Finding → Type 0
 TellsOfVersion version db finding = IsReadVersion db version → Tells db finding
 
 module _ {S : Type 0} (version : ℕ) (g : Ghosts S) (a b : Held S) (trees : ProjectTrees) (tables : HasTables version (state g a).now.schema trees) where
-  says_found : (r : Result Found Fault) → FindsWorld version g a b r → FindsNone version g a b r → FindsRow version g a b r → HasCleanDisk (state g b) → IsLegible (state g a).now → IfOk r (FindsOf version (state g a).now)
-  says_found (Ok (found.World world)) is none row clean legible = λ told. is clean trees (record { tables = tables; arranged = legible.project version told.stands trees tables }) (legible.workunits (trees the_table.Workunit) (tables.each the_table.Workunit tt))
-  says_found (Ok (found.Wrong wrong)) is none row clean legible = λ told. record {
+  says_found : (r : Result Found Fault) → LoadsTables version g a b r → HasCleanDisk (state g b) → IsLegible (state g a).now → IfOk r (FindsOf version (state g a).now)
+  says_found (Ok (found.World world)) it clean legible = λ told. it.looks.says clean trees (record { tables = tables; arranged = legible.project version told.stands trees tables }) (legible.workunits (trees the_table.Workunit) (tables.each the_table.Workunit tt))
+  says_found (Ok (found.Wrong wrong)) it clean legible = λ told. record {
     version = version;
     read = told;
     trees = trees;
     there = tables;
-    shown = row clean trees (record { tables = tables; arranged = legible.project version told.stands trees tables });
-    none = λ world readable stands. none clean world readable (told.stands world stands) stands;
+    shown = it.looks.says clean trees (record { tables = tables; arranged = legible.project version told.stands trees tables });
+    none = λ world readable stands. it.none clean world readable (told.stands world stands) stands;
   }
-  says_found (Err fault) is none row clean legible = tt
+  says_found (Err fault) it clean legible = tt
 
-  pub examines_world : (r : Result Found Fault) → Asks g a b r → IfErr r IsStoreFault → IsAnsweredUnlessFailed version g a b r → FindsWorld version g a b r → FindsNone version g a b r → FindsRow version g a b r → Examines g a b r (FindsOf version)
-  examines_world r asks fault answered world none row = record {
-    asks = asks;
-    says = says_found r world none row;
-    fault = fault;
-    answered = λ clean unlimited. answered clean trees tables unlimited;
+  pub examines_world : (r : Result Found Fault) → LoadsTables version g a b r → Examines g a b r (FindsOf version)
+  examines_world r it = record {
+    asks = it.looks.asks;
+    says = says_found r it;
+    fault = it.looks.fault;
+    answered = λ clean unlimited. it.looks.answered clean trees tables unlimited;
   }
 
 -- ---- the row that is wrong

@@ -175,9 +175,13 @@ in_line line = codes "in line " ++ (decimal line ++ line_end)
 abbrev pub line_text : ℕ → List ℕ
 line_text line = if line == 0 then [] else in_line line
 
+-- The field that is refused, between quotes.
+abbrev pub field_line : List ℕ → List ℕ
+field_line field = codes "found: '" ++ (field ++ (codes "'" ++ line_end))
+
 -- The field that is refused, if a report shows it.
 abbrev pub found_text : Option (List ℕ) → List ℕ
-found_text (Some field) = codes "found: " ++ field ++ line_end
+found_text (Some field) = field_line field
 found_text None = []
 
 abbrev pub column_line : ℕ → List ℕ → List ℕ

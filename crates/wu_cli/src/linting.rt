@@ -4,7 +4,7 @@ ghost use Rattle.std.specs.Prelude.{◌≡◌, ◌⊎◌, IfOk, IsOkUnless, Ok};
 ghost use Rattle.wu_core.specs.declared.fault.Fault.TheVariants.{Memory, Output};
 ghost use Rattle.wu_core.specs.Reads.{IsOrWantsMemory};
 ghost use Rattle.wu_report.specs.Writing.{WritesTo};
-ghost use Rattle.wu_cli.specs.Linting.{column_line, column_of, found_by, found_text, header_wanted, in_line, kind_named, line_by, line_text, Lints, LintsFile, LintsKind, LintsScript, longest_of, nothing_of, read_as, sound_file_text, unfound, unread, unread_text, wanted, wanted_line, wanted_of_key, wanted_text};
+ghost use Rattle.wu_cli.specs.Linting.{column_line, column_of, field_line, found_by, found_text, header_wanted, in_line, kind_named, line_by, line_text, Lints, LintsFile, LintsKind, LintsScript, longest_of, nothing_of, read_as, sound_file_text, unfound, unread, unread_text, wanted, wanted_line, wanted_of_key, wanted_text};
 
 use crate::row_lines::line_in_file;
 use crate::texts::{line_of_fault, worded, write_flushed};
@@ -200,12 +200,26 @@ fn write_line_of<W: Write>(out: &mut W, line: u64) -> Result<(), Fault>
     }
 }
 
+/// Writes the field that is refused between quotes, which show its blanks.
+fn write_field<'a, W: Write>(out: &mut W, field: &'a str) -> Result<(), Fault>
+    ensures { WritesTo W.contents out.old out.new (field_line field.now) result }
+{
+    write_flushed(
+        out,
+        &[
+            Piece::Text("found: '"),
+            Piece::Text(field),
+            Piece::Text("'\n"),
+        ],
+    )
+}
+
 /// Writes the field that is refused, if a report shows it.
 fn write_found<W: Write>(out: &mut W, found: &Option<Word>) -> Result<(), Fault>
     ensures { WritesTo W.contents out.old out.new (found_text found.now) result }
 {
     match found {
-        Some(word) => worded(out, "found: ", word.as_str()),
+        Some(field) => write_field(out, field.as_str()),
         None => Ok(()),
     }
 }

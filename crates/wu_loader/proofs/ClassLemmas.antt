@@ -5,7 +5,8 @@ use Rattle.wu_store.specs.Loading.{classless}
 use Rattle.std.specs.Cmp.{IsTotalOrder}
 use Rattle.std.specs.Prelude.{All}
 use Rattle.std.proofs.lemmas.Cmp.{nat_list_cmp_total}
-use Rattle.std.proofs.lemmas.List.{take-map, take_at}
+use Rattle.std.proofs.Common.{drop, get_or, set, ◌≤◌}
+use Rattle.std.proofs.lemmas.List.{drop_all, length-take-le, take-append-drop, take-map, take_at, take_more, take_more_set}
 use Rattle.std.proofs.lemmas.List.Elements.{All-from_recursion, recursion_from_All}
 use Rattle.sqlite_trees.proofs.ListLemmas.{all-map, all_of, all_weaker, flat_map-map}
 use Rattle.wu_core.specs.Classes.{AreInOrder}
@@ -22,6 +23,7 @@ use Rattle.wu_loader.specs.declared.tables.ClassRows.{ClassRows}
 use Rattle.wu_loader.specs.declared.tables.TableRows.{TableRows}
 use Rattle.wu_loader.specs.declared.world.WithClasses.{WithClasses}
 use Rattle.wu_loader.proofs.WholeLemmas.{differs_mapped, got_behind, no_rows, rows_plain}
+use Rattle.wu_loader.proofs.InPlaceLemmas.{one_more, rest_stays}
 use Rattle.wu_loader.proofs.OrderLemmas.{ascending, in_pairs, named_are, one_list, pairs_rise}
 
 pub by_host_total : IsTotalOrder by_classed_host
@@ -56,25 +58,46 @@ never_past [] n low is = absurd (omega (arith, low))
 never_past (x ∷ xs) zero low is = absurd cc
 never_past (x ∷ xs) (suc n) low is = never_past xs n (omega (arith, low)) is
 
--- up to the first workunit without a class they are those of the workunits, and there they differ
-pub differs_from : (done rest classed : List Workunit) (classes : List Classed) → map classless classed ≡ map classless done → map classed_of classed ≡ take (length classed) classes → slice_get (numbers_classed classes) (length classed) ≢ slice_get (numbers rest) 0
-    → DiffersAt (numbers (done ++ rest)) (numbers_classed classes) (length classed + 1)
-differs_from done rest classed classes so_far taken other =
-    let n = length classed in
-    let same : numbers classed ≡ numbers done = sym (map-map (λ (w : Workunit). w.number) classless classed) ∙ ap (λ (ws : List Workunit). numbers ws) so_far ∙ map-map (λ (w : Workunit). w.number) classless done in
-    let a = length-map classed (λ (w : Workunit). w.number) in
-    let b : length (numbers classed) ≡ length (numbers done) = ap (λ (ns : List ℕ). length ns) same in
-    let long : length (numbers done) ≡ n = omega (arith, a, b) in
-    let split : numbers (done ++ rest) ≡ numbers done ++ numbers rest = map-append (λ (w : Workunit). w.number) done rest in
-    let front : take n (numbers_classed classes) ≡ numbers done = take-map (λ (c : Classed). c.workunit) n classes ∙ ap (λ (cs : List Classed). numbers_classed cs) (sym taken) ∙ map-map (λ (c : Classed). c.workunit) classed_of classed ∙ same in
-    let wanted : take n (numbers (done ++ rest)) ≡ numbers done = ap (take n) split ∙ take_at (numbers done) (numbers rest) n long in
-    let next : slice_get (numbers (done ++ rest)) n ≡ slice_get (numbers rest) 0 = ap (λ (ns : List ℕ). slice_get ns n) split ∙ ap (slice_get (numbers done ++ numbers rest)) (sym long) ∙ got_behind (numbers done) (numbers rest) in
-    let e : n ≡ n + 1 - 1 = omega arith in
-    record {
-      counted = omega arith;
-      before = subst (λ k. take k (numbers_classed classes) ≡ take k (numbers (done ++ rest))) e (front ∙ sym wanted);
-      other = λ is. other (subst (λ k. slice_get (numbers_classed classes) k ≡ slice_get (numbers (done ++ rest)) k) (sym e) is ∙ next);
-    }
+-- so far in place: the workunits before an index have the classes of their rows, and the others are as at first
+pub record IsClassingAt (workunits : List Workunit) (classes : List Classed) (n : ℕ) (now : List Workunit) : Type 0 where
+  pub same : map classless (take n now) ≡ map classless (take n workunits)
+  pub classed : map classed_of (take n now) ≡ take n classes
+  pub stays : drop n now ≡ drop n workunits
+
+module _ (workunits now : List Workunit) (classes : List Classed) (n : ℕ) (so_far : IsClassingAt workunits classes n now) where
+  pub classes_next : (d : Workunit) (one : Classed) → n < length now → n < length classes → get_or classes n one ≡ one → one.workunit ≡ (get_or now n d).number
+      → IsClassingAt workunits classes (n + 1) (set now n (record (get_or now n d) { class = one.class }))
+  classes_next d one low there is number =
+      let w = get_or now n d in
+      let its : Workunit = record w { class = one.class } in
+      let grown = take_more_set now n its low in
+      let same : classed_of its ≡ one = λ i. record { workunit = sym number i; class = one.class } in
+      record {
+        same = ap (map classless) grown ∙ map-append classless (take n now) (its ∷ []) ∙ ap (λ ws. ws ++ classless w ∷ []) so_far.same ∙ sym (map-append classless (take n workunits) (w ∷ [])) ∙ ap (map classless) (sym (one_more workunits now n d low so_far.stays));
+        classed = ap (map classed_of) grown ∙ map-append classed_of (take n now) (its ∷ []) ∙ ap (λ cs. cs ++ classed_of its ∷ []) so_far.classed ∙ ap (λ c. take n classes ++ c ∷ []) (same ∙ sym is) ∙ sym (take_more classes n one there);
+        stays = rest_stays workunits now n d low so_far.stays its;
+      }
+
+  -- up to there the rows of classes are those of the workunits, and at the next one they differ
+  pub differs_next : n ≤ length now → slice_get (numbers_classed classes) n ≢ slice_get (numbers (drop n workunits)) 0 → DiffersAt (numbers workunits) (numbers_classed classes) (n + 1)
+  differs_next within other =
+      let done = numbers (take n workunits) in
+      let rest = numbers (drop n workunits) in
+      let same : numbers (take n now) ≡ done = sym (map-map (λ (w : Workunit). w.number) classless (take n now)) ∙ ap (λ (ws : List Workunit). numbers ws) so_far.same ∙ map-map (λ (w : Workunit). w.number) classless (take n workunits) in
+      let long : length done ≡ n = sym (ap (λ (ns : List ℕ). length ns) same) ∙ length-map (take n now) (λ (w : Workunit). w.number) ∙ length-take-le n now within in
+      let split : numbers workunits ≡ done ++ rest = ap (λ (ws : List Workunit). numbers ws) (sym (take-append-drop n workunits)) ∙ map-append (λ (w : Workunit). w.number) (take n workunits) (drop n workunits) in
+      let front : take n (numbers_classed classes) ≡ done = take-map (λ (c : Classed). c.workunit) n classes ∙ ap (λ (cs : List Classed). numbers_classed cs) (sym so_far.classed) ∙ map-map (λ (c : Classed). c.workunit) classed_of (take n now) ∙ same in
+      let wanted : take n (numbers workunits) ≡ done = ap (take n) split ∙ take_at done rest n long in
+      let next : slice_get (numbers workunits) n ≡ slice_get rest 0 = ap (λ (ns : List ℕ). slice_get ns n) split ∙ ap (slice_get (done ++ rest)) (sym long) ∙ got_behind done rest in
+      let e : n ≡ n + 1 - 1 = omega arith in
+      record {
+        counted = omega arith;
+        before = subst (λ k. take k (numbers_classed classes) ≡ take k (numbers workunits)) e (front ∙ sym wanted);
+        other = λ is. other (subst (λ k. slice_get (numbers_classed classes) k ≡ slice_get (numbers workunits) k) (sym e) is ∙ next);
+      }
+
+  pub none_left : length now ≤ n → drop n workunits ≡ []
+  none_left end = sym so_far.stays ∙ drop_all n now end
 
 -- so do the keys of their rows
 pub differs_keys : (ws : List Workunit) (classes : List Classed) (rows : List Row) (place : ℕ) → rows ≡ map classed_row classes → DiffersAt (numbers ws) (numbers_classed classes) place → DiffersAt (keys (map workunit_row ws)) (keys rows) place

@@ -2,7 +2,8 @@
 use Rattle.wu_schema.proofs.Words.{AllByRecursion, Instance, List, Workunit, all_has, drop, flat_map, has_right, inl, map-append, ◌≢◌, ◌≤◌, [], ap, arith, enumerate_from, length, map, on_total, refl, sym, subst, suc, take, ℕ, ◌++◌, ◌-◌, ◌+◌, ◌<◌, ◌∙◌, ◌∷◌, ◌≡◌, append-nil}
 use Rattle.wu_store.specs.Changes.{without_instances}
 use Rattle.std.specs.Prelude.{All}
-use Rattle.std.proofs.lemmas.List.{append_assoc, append_cancel_left, length-append, take_at}
+use Rattle.std.proofs.Common.{get_or, set}
+use Rattle.std.proofs.lemmas.List.{append_assoc, append_cancel_left, drop_all, length-append, take_all, take_at, take_more_set}
 use Rattle.std.proofs.lemmas.List.Concat.{flat_map-append}
 use Rattle.std.proofs.lemmas.List.Elements.{All-nil, All-push, recursion_from_All}
 use Rattle.wu_core.specs.Limits.{most_instances}
@@ -12,6 +13,7 @@ use Rattle.wu_loader.specs.Dealing.{by_place, placed_from, placed_of, AreDealt, 
 use Rattle.wu_loader.specs.Worlds.{IsOrdered}
 use Rattle.wu_loader.specs.Wrongs.{IsUndealtAt}
 use Rattle.wu_loader.specs.declared.rows.Placed.{Placed}
+use Rattle.wu_loader.proofs.InPlaceLemmas.{next_is, one_more, rest_stays}
 
 pub by_place_total : IsTotalOrder by_place
 by_place_total = then_total (on_total (λ (p : Placed). p.workunit) nat_cmp_total) (on_total (λ (p : Placed). p.n) nat_cmp_total)
@@ -149,6 +151,28 @@ module _ (workunits : List Workunit) (placed : List Placed) (yielded rest dealt 
     few = All-push HasFew dealt with_its so_far.few few;
     only = λ front back covers some ws up are. let it = followed front back covers some ws up are in (it.more, it.split ∙ sym (append_assoc dealt (with_its ∷ []) it.more));
   }
+
+-- so far in place: the workunits before an index are dealt theirs, and the others are as at first
+abbrev pub IsDealingAt : List Workunit → List Placed → ℕ → List Workunit → List Placed → Type 0
+IsDealingAt workunits placed n now left = IsDealing workunits placed (take n workunits) (drop n workunits) (take n now) left × (drop n now ≡ drop n workunits)
+
+module _ (workunits now : List Workunit) (placed left : List Placed) (n : ℕ) (so_far : IsDealingAt workunits placed n now left) where
+  pub deals_next : (next : List Placed) (is : List Instance) (d : Workunit) → n < length now → left ≡ placed_from (get_or now n d).number is ++ next → length is ≤ most_instances
+      → (length is < most_instances → ¬ IsNext (get_or now n d).number (length is) next) → IsDealingAt workunits placed (n + 1) (set now n (record (get_or now n d) { instances = is })) next
+  deals_next next is d low taken few end =
+      let w = get_or now n d in
+      let its : Workunit = record w { instances = is } in
+      let first : IsDealing workunits placed (take n workunits) (w ∷ drop (n + 1) workunits) (take n now) left = subst (λ rest. IsDealing workunits placed (take n workunits) rest (take n now) left) (next_is workunits now n d low so_far.1) so_far.0 in
+      let more = deals_more workunits placed (take n workunits) (drop (n + 1) workunits) (take n now) w left next is first taken few end in (
+        subst (λ yielded. IsDealing workunits placed yielded (drop (n + 1) workunits) (take (n + 1) (set now n its)) next) (sym (one_more workunits now n d low so_far.1))
+            (subst (λ dealt. IsDealing workunits placed (take n workunits ++ w ∷ []) (drop (n + 1) workunits) dealt next) (sym (take_more_set now n its low)) more),
+        rest_stays workunits now n d low so_far.1 its,
+      )
+
+  pub deals_ended : length now ≤ n → IsDealing workunits placed (take n workunits) [] now left
+  deals_ended end =
+      let none : drop n workunits ≡ [] = sym so_far.1 ∙ drop_all n now end in
+      subst (λ dealt. IsDealing workunits placed (take n workunits) [] dealt left) (take_all n now end) (subst (λ rest. IsDealing workunits placed (take n workunits) rest (take n now) left) none so_far.0)
 
 module _ (workunits : List Workunit) (placed : List Placed) (yielded dealt : List Workunit) (left : List Placed) (so_far : IsDealing workunits placed yielded [] dealt left) where
   bares_are : map without_instances dealt ≡ map without_instances workunits

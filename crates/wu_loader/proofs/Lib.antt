@@ -10,6 +10,7 @@ pub mod OrderLemmas
 pub mod WorkLemmas
 pub mod GrantLemmas
 pub mod RunLemmas
+pub mod InPlaceLemmas
 pub mod ListedLemmas
 pub mod ClassLemmas
 mod FirstLemmas

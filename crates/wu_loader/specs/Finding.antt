@@ -8,7 +8,7 @@ use Rattle.wu_core.specs.World.{World}
 use Rattle.wu_core.specs.declared.fault.Fault.{Fault}
 use Rattle.wu_schema.specs.Refines.{Refines}
 use Rattle.wu_schema.specs.ProjectTables.{ProjectTrees}
-use Rattle.wu_loader.specs.Asked.{HasArranged}
+use Rattle.wu_loader.specs.Asked.{LooksAtTables}
 use Rattle.wu_loader.specs.First.{IsFirstWrong}
 use Rattle.wu_loader.specs.Shown.{AreWhole, ShowsTables}
 use Rattle.wu_loader.specs.Worlds.{IsReadable}
@@ -18,27 +18,10 @@ use Rattle.wu_loader.specs.declared.finding.WrongRow.{WrongRow}
 use Rattle.wu_loader.specs.declared.tables.TableRows.{TableRows}
 use Rattle.wu_schema.specs.declared.table.ProjectTable.TheVariants as the_table
 
--- If a world is found, this holds of it.
-abbrev pub IfWorld : Found → (World → Type 0) → Type 0
-IfWorld (found.World world) Holds = Holds world
-IfWorld (found.Wrong wrong) Holds = ⊤
-
--- If a wrong row is reported, this holds of it.
-abbrev pub IfWrong : Found → (WrongRow → Type 0) → Type 0
+-- If a wrong row is reported, this holds.
+abbrev pub IfWrong : Found → Type 0 → Type 0
 IfWrong (found.World world) Holds = ⊤
-IfWrong (found.Wrong wrong) Holds = Holds wrong
-
--- If the tables of this version are there, with their rows in order and those of workunits whole, they represent the
--- world that is found.
-abbrev pub FindsWorld : {S : Type 0} → ℕ → Ghosts S → Held S → Held S → Result Found Fault → Type 0
-FindsWorld version g old new result =
-    HasCleanDisk (state g new) → (trees : ProjectTrees) → HasArranged version (state g old).now trees → AreWhole 15 ((state g old).now.trees (trees the_table.Workunit))
-    → IfOk result (λ found. IfWorld found (Refines (state g old).now))
-
--- If a wrong row is reported, the tables represent no world of this version with values that rows may have.
-abbrev pub FindsNone : {S : Type 0} → ℕ → Ghosts S → Held S → Held S → Result Found Fault → Type 0
-FindsNone version g old new result =
-    HasCleanDisk (state g new) → IfOk result (λ found. IfWrong found (λ _. (world : World) → IsReadable world → world.version ≡ version → ¬ Refines (state g old).now world))
+IfWrong (found.Wrong wrong) Holds = Holds
 
 -- The reported row is the first that is wrong, among those that questions show of the tables of this version.
 pub record IsShownWrong (version : ℕ) (db : Database) (trees : ProjectTrees) (wrong : WrongRow) : Type 0 where
@@ -46,9 +29,17 @@ pub record IsShownWrong (version : ℕ) (db : Database) (trees : ProjectTrees) (
   pub shown : ShowsTables version db.trees trees rows
   pub is : IsFirstWrong version rows wrong
 
--- If a wrong row is reported, and the tables of this version are there with their rows in order, the row is the first
--- wrong one.
-abbrev pub FindsRow : {S : Type 0} → ℕ → Ghosts S → Held S → Held S → Result Found Fault → Type 0
-FindsRow version g old new result =
-    HasCleanDisk (state g new) → (trees : ProjectTrees) → HasArranged version (state g old).now trees
-    → IfOk result (λ found. IfWrong found (IsShownWrong version (state g old).now trees))
+-- What is found in the tables of this version: the world that they represent, if the rows of workunits are whole; or the
+-- first wrong row.
+abbrev pub ShowsFound : ℕ → Database → ProjectTrees → Found → Type 0
+ShowsFound version db trees (found.World world) = AreWhole 15 (db.trees (trees the_table.Workunit)) → Refines db world
+ShowsFound version db trees (found.Wrong wrong) = IsShownWrong version db trees wrong
+
+-- What a call does that loads the world of the tables of this version, and what it finds.
+pub record LoadsTables {S : Type 0} (version : ℕ) (g : Ghosts S) (old new : Held S) (result : Result Found Fault) : Type 0 where
+  -- It only reads, and finds so much of tables of this version whose rows are in order.
+  pub looks : LooksAtTables version g old new result (ShowsFound version)
+  -- If a wrong row is reported, the tables represent no world of this version with values that rows may have.
+  pub none :
+      HasCleanDisk (state g new)
+      → IfOk result (λ found. IfWrong found ((world : World) → IsReadable world → world.version ≡ version → ¬ Refines (state g old).now world))

@@ -15,30 +15,25 @@ ghost use Rattle.wu_loader.specs.Wrongs.{IsWrongHostClass};
 use crate::finding::{NoWorld, WrongRow};
 use crate::rows::Classed;
 use crate::whole::RowsOf;
-use std::alloc::{AllocError, Global};
+use std::alloc::AllocError;
 use wu_core::{HostClass, Workunit};
 use wu_schema::ProjectTable;
 
 /// Returns the workunits, each with class 0.
-pub(crate) fn without_classes(
-    alloc: Global,
-    workunits: Vec<Workunit>,
-) -> Result<Vec<Workunit>, AllocError>
-    // After `Ok` these are the workunits, each with class 0.
-    ensures { IfOk result (λ unbound. unbound.items ≡ map classless workunits.items) }
+pub(crate) fn without_classes(workunits: Vec<Workunit>) -> Vec<Workunit>
+    // These are the workunits, each with class 0.
+    ensures { result.items ≡ map classless workunits.items }
 {
-    let mut unbound = Vec::new(alloc);
-    for mut workunit in workunits {
+    let mut unbound = workunits;
+    for workunit in unbound.iter_mut() {
         workunit.class = 0;
-        unbound.push(workunit)?;
     }
-    Ok(unbound)
+    unbound
 }
 
 /// Returns the workunits, each with its class. Returns the first place whose class is that of another workunit, or the
 /// place after the last class if one is missing.
 pub(crate) fn with_classes(
-    alloc: Global,
     workunits: Vec<Workunit>,
     classes: &[Classed],
 ) -> Result<Vec<Workunit>, NoWorld>
@@ -53,9 +48,8 @@ pub(crate) fn with_classes(
     ensures told { IfErr result (λ reason. UnlessMemory reason (IsIn ProjectTable.WorkunitClass
         (DiffersAt (numbers workunits.items) (numbers_classed classes.now)))) }
 {
-    let mut classed = Vec::new(alloc);
-    for mut workunit in workunits {
-        let n = classed.len();
+    let mut classed = workunits;
+    for (n, workunit) in classed.iter_mut().enumerate() {
         match classes.get(n) {
             Some(one) if one.workunit == workunit.number => workunit.class = one.class,
             _ => {
@@ -65,7 +59,6 @@ pub(crate) fn with_classes(
                 }));
             }
         }
-        classed.push(workunit)?;
     }
     let n = classed.len();
     if n < classes.len() {

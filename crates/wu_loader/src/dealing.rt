@@ -1,6 +1,6 @@
 //! Each workunit with its instances.
 
-ghost use Rattle.std.specs.Prelude.{◌≡◌, ◌↔◌, ◌++◌, ◌<◌, ◌≤◌, length, IfErr, IfOk, IsTrue, List, OnOk};
+ghost use Rattle.std.specs.Prelude.{◌≡◌, ◌↔◌, ◌++◌, ◌<◌, ◌≤◌, length, IfErr, IfOk, IsTrue, List};
 ghost use Rattle.std.specs.List.Sorted.{IsPermutation, IsSorted};
 ghost use Rattle.wu_core.specs.Limits.{most_instances};
 ghost use Rattle.wu_core.specs.declared.workunit.Workunit.{Workunit};
@@ -16,14 +16,16 @@ use std::collections::VecDeque;
 use wu_core::{Instance, Instances, MOST_INSTANCES, Workunit};
 use wu_schema::ProjectTable;
 
-/// Sorts the instances by their workunits' numbers, and those of a workunit by their own.
-pub(crate) fn sort(placed: &mut Vec<Placed>) -> Result<(), AllocError>
+/// Sorts the instances by their workunits' numbers, and those of a workunit by their own. It takes no memory.
+pub(crate) fn sort(placed: &mut Vec<Placed>)
     // The instances are the same afterwards, in some order.
     ensures same { IsPermutation placed.old.items placed.new.items }
-    // After `Ok` they are in order of their workunits' numbers, and then of their own.
-    ensures sorted { OnOk result (IsSorted by_place placed.new.items) }
+    // They are in order of their workunits' numbers, and then of their own.
+    ensures sorted { IsSorted by_place placed.new.items }
 {
-    placed.sort_by(|one, other| { one.workunit.cmp(&other.workunit).then(one.n.cmp(&other.n)) })
+    placed.sort_unstable_by(|one, other| {
+        one.workunit.cmp(&other.workunit).then(one.n.cmp(&other.n))
+    })
 }
 
 /// Returns whether the first of these is the one of this workunit and this number.
@@ -34,6 +36,14 @@ fn is_next(left: &VecDeque<Placed>, workunit: u64, n: usize) -> bool
         Some(placed) => placed.workunit == workunit && placed.n == n as u64,
         None => false,
     }
+}
+
+/// Returns how many of the first of these are of this workunit: for so many room is made. No clause speaks of it.
+fn room_for(left: &VecDeque<Placed>, workunit: u64) -> usize {
+    left.iter()
+        .take(MOST_INSTANCES as usize)
+        .take_while(|placed| placed.workunit == workunit)
+        .count()
 }
 
 /// Takes the instances of this workunit from the front: those that are numbered from 0, as far as they go, but no more
@@ -53,7 +63,7 @@ fn take_instances(
     ensures all { IfOk result (λ instances. length instances.items < most_instances
         → ¬ IsNext workunit (length instances.items) left.new.items) }
 {
-    let mut instances = Vec::new(alloc);
+    let mut instances = Vec::with_capacity(alloc, room_for(left, workunit))?;
     'each: while instances.len() < MOST_INSTANCES as usize
         && is_next(left, workunit, instances.len())
     {
@@ -61,7 +71,6 @@ fn take_instances(
             instances.push(placed.instance)?;
         }
     }
-    instances.shrink_to_fit();
     Ok(instances)
 }
 
@@ -84,11 +93,10 @@ pub(crate) fn deal(
 {
     let total = placed.len();
     let mut left = placed;
-    let mut dealt = Vec::with_capacity(alloc, workunits.len())?;
-    for mut workunit in workunits {
+    let mut dealt = workunits;
+    for workunit in dealt.iter_mut() {
         let instances = take_instances(alloc, workunit.number, &mut left)?;
         workunit.instances = Instances::from_vec(instances);
-        dealt.push(workunit)?;
     }
     if left.is_empty() {
         Ok(dealt)

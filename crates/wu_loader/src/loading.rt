@@ -1,10 +1,6 @@
 //! The world that the tables of a project represent.
 
-ghost use Rattle.std.specs.Prelude.{IfErr};
-ghost use Rattle.wu_schema.specs.Asking.{Asks, ServesUnlessFailed};
-ghost use Rattle.wu_schema.specs.Faults.{IsStoreFault};
-ghost use Rattle.wu_loader.specs.Asked.{IsAnsweredUnlessFailed};
-ghost use Rattle.wu_loader.specs.Finding.{FindsNone, FindsRow, FindsWorld};
+ghost use Rattle.wu_loader.specs.Finding.{LoadsTables};
 
 use crate::finding::{Found, NoWorld};
 use crate::tables::table_rows;
@@ -22,25 +18,13 @@ pub fn load_world<S: Alter>(
     alloc: Global,
     version: u64,
 ) -> Result<Found, Fault>
-    // Begins no transaction and commits nothing; except after `Memory` and `Broken` all is as
-    // before; `Broken` means a failed disk or a closed connection.
-    ensures asks { Asks S.Store conn.old conn.new result }
-    // The connection is open afterwards, except after `Memory` and `Broken`.
-    ensures opens { ServesUnlessFailed S.Store conn.new result }
-    // A fault is `Memory`, `Broken` or `NotAProject`.
-    ensures fault { IfErr result IsStoreFault }
-    // Over tables of this version, with no limit on steps, the only faults are `Memory` and
-    // `Broken`.
-    ensures answered { IsAnsweredUnlessFailed version S.Store conn.old conn.new result }
-    // Where tables of this version are there, in rowid order with whole rows of workunits, they
-    // represent the world that is returned.
-    ensures world { FindsWorld version S.Store conn.old conn.new result }
-    // A row that is reported means that the tables represent no readable world of this version.
-    ensures none { FindsNone version S.Store conn.old conn.new result }
-    // Over tables of this version in rowid order, the reported row is the first missing or invalid
-    // one in the written order. Tables are counted by key, results by workunit and number, hosts
-    // and classes by name; imports, and unreadable rows without a key, in any order.
-    ensures told { FindsRow version S.Store conn.old conn.new result }
+    // Only reads; with no limit on steps its only faults over tables of this version are `Memory` and
+    // `Broken`. If their rows are in rowid order, and those of workunits whole, they represent the
+    // world that is returned. A reported row is the first missing or invalid one in the written
+    // order, and then they represent no readable world of this version. Tables are counted by key,
+    // results by workunit and number, hosts and classes by name; imports, and unreadable rows
+    // without a key, in any order.
+    ensures { LoadsTables version S.Store conn.old conn.new result }
 {
     // that there is a schema means that the tables obey it
     conn.schema();

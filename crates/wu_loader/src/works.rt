@@ -41,7 +41,7 @@ pub(crate) fn works_from(
 {
     let workunits = rows.into_values(ProjectTable::Workunit)?;
     let mut placed = instances.into_values(ProjectTable::Result)?;
-    sort(&mut placed)?;
+    sort(&mut placed);
     let queue = VecDeque::from(placed);
     deal(alloc, workunits, queue)
 }

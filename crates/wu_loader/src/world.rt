@@ -151,13 +151,13 @@ fn classes_from(
 {
     let Some(rows) = rows else {
         return Ok(WithClasses {
-            workunits: without_classes(alloc, workunits)?,
+            workunits: without_classes(workunits),
             hosts: Vec::new(alloc),
         });
     };
     let hosts = host_classes(rows.hosts)?;
     let classes = rows.workunits.into_values(ProjectTable::WorkunitClass)?;
-    let workunits = with_classes(alloc, workunits, &classes)?;
+    let workunits = with_classes(workunits, &classes)?;
     Ok(WithClasses { workunits, hosts })
 }
 

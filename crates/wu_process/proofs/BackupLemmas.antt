@@ -38,9 +38,9 @@ pub filled_with : (world : World) (empty : Files MemoryFile) (conn : Held (FileS
 filled_with world empty conn blank opened None fills = tt
 filled_with world empty conn blank opened (Some files) fills = record { empty = empty; blank = blank; conn = conn; opened = opened; fills = fills }
 
-pub refill_of : (folded : Folded MemoryFile) (world : World) → folded.checked.world ≡ Some world → (files : Option (Files MemoryFile)) → IfSome files (IsFilledWith world) → IfSome files (IsRefillOf folded)
-refill_of folded world is None filled = tt
-refill_of folded world is (Some files) filled = (world, is, filled)
+pub refill_of : (world : World) (files : Option (Files MemoryFile)) → IfSome files (IsFilledWith world) → IfSome files (IsRefillOf (Some world))
+refill_of world None filled = tt
+refill_of world (Some files) filled = (world, refl, filled)
 
 -- of a database that was filled
 pub filled_into : {D : Type 0} {g : Ghosts D} (conn again : Held (FileStore D g)) (world : World) → IsFilled over_files conn world again → (closed : Result (Files D) Error) → ClosesFiles again closed → IfSome (result_ok closed) (IsFilledInto conn world)

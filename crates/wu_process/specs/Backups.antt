@@ -101,9 +101,9 @@ pub record IsFilledWith (world : World) (files : Files MemoryFile) : Type 0 wher
   pub opened : IsOpenedIn empty conn
   pub fills : IsFilledInto conn world files
 
--- These files are those of a new database with the world that was loaded.
-abbrev pub IsRefillOf : Folded MemoryFile → Files MemoryFile → Type 0
-IsRefillOf folded files = (world : World) × (folded.checked.world ≡ Some world) × IsFilledWith world files
+-- These files are those of a new database with the world, if one was loaded.
+abbrev pub IsRefillOf : Option World → Files MemoryFile → Type 0
+IsRefillOf loaded files = (world : World) × (loaded ≡ Some world) × IsFilledWith world files
 
 module _ (makes : List ℕ → List ℕ → Type 0) where
   -- The new file has the bytes of this one, and these numbers are returned; or it is not made, for this reason.
@@ -115,7 +115,7 @@ module _ (makes : List ℕ → List ℕ → Type 0) where
   -- numbers are those of the check.
   pub record BecomesFile (to : List ℕ) (folded : Folded MemoryFile) (made : Result Counts Trouble) : Type 0 where
     pub files : Files MemoryFile
-    pub source : (files ≡ folded.files) ⊎ IsRefillOf folded files
+    pub source : (files ≡ folded.files) ⊎ IsRefillOf folded.checked.world files
     pub makes_file : MakesFile to files folded.checked.counts made
 
   -- What became of the copy: its new file, or the trouble that kept it from one.

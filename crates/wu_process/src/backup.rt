@@ -128,14 +128,10 @@ fn fold<D: Disk + Drop>(
 /// Makes a project with a world in an open database. Where that fails, nothing is returned.
 ///
 /// It stands over any store: what is asked of one over files is proved again at each such call and drop.
-fn fill<S: Alter + Drop>(
-    alloc: Global,
-    conn: Connection<S>,
-    world: &Loaded,
-) -> Option<Connection<S>>
+fn fill<S: Alter + Drop>(alloc: Global, conn: Connection<S>, world: Loaded) -> Option<Connection<S>>
     requires idle { conn.in_transaction ≡ false }
-    requires may { MayBeRefilled world.now }
-    ensures { IfSome result (IsFilled S.Store conn world.now) }
+    requires may { MayBeRefilled world }
+    ensures { IfSome result (IsFilled S.Store conn world) }
 {
     let mut conn = conn;
     match create_filled(&mut conn, alloc, world) {
@@ -148,11 +144,11 @@ fn fill<S: Alter + Drop>(
 fn fill_and_close<D: Disk + Drop>(
     alloc: Global,
     conn: Connection<FileStore<D>>,
-    world: &Loaded,
+    world: Loaded,
 ) -> Option<Files<D>>
     requires idle { conn.in_transaction ≡ false }
-    requires may { MayBeRefilled world.now }
-    ensures { IfSome result (IsFilledInto conn world.now) }
+    requires may { MayBeRefilled world }
+    ensures { IfSome result (IsFilledInto conn world) }
 {
     match fill(alloc, conn, world) {
         Some(conn) => close(conn).ok(),
@@ -161,9 +157,9 @@ fn fill_and_close<D: Disk + Drop>(
 }
 
 /// Makes two new files in memory with a project that has a world. Where that fails, nothing is returned.
-fn fill_files(alloc: Global, world: &Loaded, options: Options) -> Option<Files<MemoryFile>>
-    requires { MayBeRefilled world.now }
-    ensures { IfSome result (IsFilledWith world.now) }
+fn fill_files(alloc: Global, world: Loaded, options: Options) -> Option<Files<MemoryFile>>
+    requires { MayBeRefilled world }
+    ensures { IfSome result (IsFilledWith world) }
 {
     let files = Files {
         log: MemoryFile::new(alloc),
@@ -178,13 +174,13 @@ fn fill_files(alloc: Global, world: &Loaded, options: Options) -> Option<Files<M
 /// Makes new files with the world of a sound project, if it was loaded. Where that fails, nothing is returned.
 fn refill_files(
     alloc: Global,
-    folded: &Folded<MemoryFile>,
+    loaded: Option<Loaded>,
     options: Options,
 ) -> Option<Files<MemoryFile>>
-    requires { IfSome folded.now.checked.world MayBeRefilled }
-    ensures { IfSome result (IsRefillOf folded.now) }
+    requires { IfSome loaded MayBeRefilled }
+    ensures { IfSome result (IsRefillOf loaded) }
 {
-    match &folded.checked.world {
+    match loaded {
         Some(world) => fill_files(alloc, world, options),
         None => None,
     }
@@ -211,16 +207,16 @@ fn make_folded<F: MakeFile>(
     alloc: Global,
     new_files: &F,
     to: &str,
-    folded: &Folded<MemoryFile>,
+    folded: Folded<MemoryFile>,
     options: Options,
 ) -> Result<Counts, Trouble>
-    requires { IfSome folded.now.checked.world MayBeRefilled }
-    ensures { BecomesFile (F.MakeFile.makes new_files.now) to.now folded.now result }
+    requires { IfSome folded.checked.world MayBeRefilled }
+    ensures { BecomesFile (F.MakeFile.makes new_files.now) to.now folded result }
 {
-    let counts = folded.checked.counts;
-    match refill_files(alloc, folded, options) {
-        Some(files) => make_file(new_files, to, &files, counts),
-        None => make_file(new_files, to, &folded.files, counts),
+    let Folded { files, checked } = folded;
+    match refill_files(alloc, checked.world, options) {
+        Some(refilled) => make_file(new_files, to, &refilled, checked.counts),
+        None => make_file(new_files, to, &files, checked.counts),
     }
 }
 
@@ -249,5 +245,5 @@ pub fn make_backup<F: MakeFile>(
     };
     let wants_world = has_many_free_pages(files.log.bytes(), files.db.bytes());
     let folded = fold(rt.alloc(), files, options(rt), wants_world)?;
-    make_folded(rt.alloc(), new_files, to, &folded, options(rt))
+    make_folded(rt.alloc(), new_files, to, folded, options(rt))
 }

@@ -17,13 +17,6 @@ use Rattle.wu_refill.specs.Refilling.{AddsFirstGrants, AddsKept}
 pub taken_more : {X : Type 0} (xs : List X) (i : ℕ) (x : X) → i < length xs → get_or xs i x ≡ x → take i xs ++ x ∷ [] ≡ take (i + 1) xs
 taken_more xs i x low there = ap (λ y. take i xs ++ y ∷ []) (sym there) ∙ sym (take_more xs i x low)
 
--- the change of one element more
-pub mapped_more : {X : Type 0} (change : X → Change) (first changes new : List Change) (xs : List X) (i : ℕ) (x : X) → i < length xs → get_or xs i x ≡ x
-    → changes ≡ first ++ map change (take i xs) → new ≡ changes ++ change x ∷ [] → new ≡ first ++ map change (take (i + 1) xs)
-mapped_more change first changes new xs i x low there are is =
-    is ∙ ap (λ cs. cs ++ change x ∷ []) are ∙ append_assoc first (map change (take i xs)) (change x ∷ [])
-    ∙ ap (λ cs. first ++ cs) (sym (map-append change (take i xs) (x ∷ [])) ∙ ap (map change) (taken_more xs i x low there))
-
 -- no import yet
 pub none_kept : (changes : List Change) → AddsKept [] changes changes
 none_kept changes = record { kept = []; are = refl; changes = sym (append-nil changes) }

@@ -10,7 +10,7 @@ use Rattle.wu_audit.specs.Laws.{SoundInAnyOrder}
 use Rattle.wu_core.specs.World.{World, MayBeKept}
 use Rattle.wu_core.specs.declared.fault.Fault.{Fault}
 use Rattle.wu_loader.specs.Asked.{HasArranged}
-use Rattle.wu_loader.specs.Finding.{FindsNone, FindsWorld}
+use Rattle.wu_loader.specs.Finding.{LoadsTables}
 use Rattle.wu_loader.specs.Shown.{AreArranged, AreWhole}
 use Rattle.wu_loader.specs.Worlds.{IsReadable}
 use Rattle.wu_loader.specs.declared.finding.Found.{Found}
@@ -74,25 +74,25 @@ module _ (db : Database) (world : World) (stands : Refines db world) where
   whole : AreWhole 15 (db.trees (stands.trees the_table.Workunit))
   whole = subst (AreWhole 15) (sym stands.rows.workunits.same) (all_whole 15 stored_workunit (λ w. refl) world.workunits)
 
-pub finds_sound : {S : Type 0} → SoundInAnyOrder → (g : Ghosts S) (old new : Held S) (it : Found) → FindsWorld present_version g old new (Ok it) → FindsNone present_version g old new (Ok it)
+pub finds_sound : {S : Type 0} → SoundInAnyOrder → (g : Ghosts S) (old new : Held S) (it : Found) → LoadsTables present_version g old new (Ok it)
     → (r : Result (Option World) Fault) → IfOk r (KeepsSoundWorld it) → FindsSound g old new r
-finds_sound any_order g old new (found.World it) finds none r keeps clean world stands sound is =
+finds_sound any_order g old new (found.World it) loads r keeps clean world stands sound is =
     let db = (state g old).now in
-    let refines : Refines db it = finds clean stands.trees (arranged db world stands is) (whole db world stands) in
+    let refines : Refines db it = loads.looks.says clean stands.trees (arranged db world stands is) (whole db world stands) in
     IfOk-weaker r _ _ (kept_of any_order db world stands sound is it refines) keeps
-finds_sound any_order g old new (found.Wrong wrong) finds none r keeps clean world stands sound is =
-    absurd (none clean world (readable world sound is) is stands)
+finds_sound any_order g old new (found.Wrong wrong) loads r keeps clean world stands sound is =
+    absurd (loads.none clean world (readable world sound is) is stands)
 
 -- a world that is kept is the one that was found
 theirs_of : (db : Database) (it : Found) → ((world : World) → it ≡ found.World world → Refines db world) → (kept : Option World) → IfSome kept (λ world. it ≡ found.World world) → IfSome kept (Refines db)
 theirs_of db it stands None same = tt
 theirs_of db it stands (Some world) same = stands world same
 
-pub finds_theirs : {S : Type 0} → (g : Ghosts S) (old new : Held S) (it : Found) → FindsWorld present_version g old new (Ok it) → (r : Result (Option World) Fault) → IfOk r (λ kept. IfSome kept (λ world. it ≡ found.World world)) → FindsTheirs g old new r
-finds_theirs g old new it finds r same clean world stands is =
+pub finds_theirs : {S : Type 0} → (g : Ghosts S) (old new : Held S) (it : Found) → LoadsTables present_version g old new (Ok it) → (r : Result (Option World) Fault) → IfOk r (λ kept. IfSome kept (λ world. it ≡ found.World world)) → FindsTheirs g old new r
+finds_theirs g old new it loads r same clean world stands is =
     let db = (state g old).now in
     let told : (other : World) → it ≡ found.World other → Refines db other =
-    λ other e. subst (λ (f : Found). FindsWorld present_version g old new (Ok f)) e finds clean stands.trees (arranged db world stands is) (whole db world stands) in
+    λ other e. (subst (λ (f : Found). LoadsTables present_version g old new (Ok f)) e loads).looks.says clean stands.trees (arranged db world stands is) (whole db world stands) in
     IfOk-weaker r _ _ (theirs_of db it told) same
 
 -- what holds, holds if a world is found

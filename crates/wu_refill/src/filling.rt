@@ -1,6 +1,7 @@
 //! The changes that make a world of an empty one.
 
 ghost use Rattle.std.specs.Prelude.{◌≡◌, ◌++◌, map, All, IfErr, IfOk, OnOk};
+ghost use Rattle.wu_audit.specs.LoadedWorlds.{world_of_parts};
 ghost use Rattle.wu_core.specs.declared.fault.Fault.TheVariants.{Memory};
 ghost use Rattle.wu_core.specs.Storable.{AreVerdicts};
 ghost use Rattle.wu_plans.specs.Planning.{sets_class};
@@ -8,49 +9,45 @@ ghost use Rattle.wu_refill.specs.Refilling.{AddsFirstGrants, AddsKept, MakesTheW
 ghost use Rattle.wu_store.specs.Changing.{import_of_change};
 ghost use Rattle.wu_store.specs.declared.changes.Change.TheVariants.{Add};
 
-use crate::copies::{copies_of_archived, copies_of_grants};
 use std::alloc::Global;
-use wu_audit::{Imported, Loaded};
+use wu_audit::{Imported, LoadedParts};
 use wu_core::{Fault, Grant, HostClass, Workunit};
-use wu_plans::{copy_of, with_archived, with_grants};
+use wu_plans::{with_archived, with_grants};
 use wu_store::{Change, Import, Verdicts};
 
 /// Adds the changes that set the classes of these hosts, in their order.
-fn add_classes(changes: &mut Vec<Change<'_>>, classes: &[HostClass]) -> Result<(), Fault>
+fn add_classes(changes: &mut Vec<Change<'_>>, classes: Vec<HostClass>) -> Result<(), Fault>
     ensures added { OnOk result
-        (changes.new.items ≡ changes.old.items ++ map sets_class classes.now) }
+        (changes.new.items ≡ changes.old.items ++ map sets_class classes.items) }
     ensures fault { IfErr result (λ fault. fault ≡ Memory) }
 {
     for row in classes {
-        changes.push(Change::Class(row.host.copy()?, row.class))?;
+        changes.push(Change::Class(row.host, row.class))?;
     }
     Ok(())
 }
 
 /// Adds the changes that add these workunits, in their order.
-fn add_workunits(
-    alloc: Global,
-    changes: &mut Vec<Change<'_>>,
-    workunits: &[Workunit],
-) -> Result<(), Fault>
-    ensures added { OnOk result (changes.new.items ≡ changes.old.items ++ map Add workunits.now) }
+fn add_workunits(changes: &mut Vec<Change<'_>>, workunits: Vec<Workunit>) -> Result<(), Fault>
+    ensures added { OnOk result
+        (changes.new.items ≡ changes.old.items ++ map Add workunits.items) }
     ensures fault { IfErr result (λ fault. fault ≡ Memory) }
 {
     for workunit in workunits {
-        changes.push(Change::Add(copy_of(alloc, workunit)?))?;
+        changes.push(Change::Add(workunit))?;
     }
     Ok(())
 }
 
 /// Adds the one change that keeps these grants from the first place on, with their sums, if there are any.
-fn add_grants(alloc: Global, changes: &mut Vec<Change<'_>>, grants: &[Grant]) -> Result<(), Fault>
-    ensures added { OnOk result (AddsFirstGrants grants.now changes.old.items changes.new.items) }
+fn add_grants(alloc: Global, changes: &mut Vec<Change<'_>>, grants: Vec<Grant>) -> Result<(), Fault>
+    ensures added { OnOk result (AddsFirstGrants grants.items changes.old.items changes.new.items) }
     ensures fault { IfErr result (λ fault. fault ≡ Memory) }
 {
     if grants.is_empty() {
         return Ok(());
     }
-    with_grants(alloc, changes, 1, copies_of_grants(alloc, grants)?)
+    with_grants(alloc, changes, 1, grants)
 }
 
 /// Returns what is kept of an import, which lends its content.
@@ -85,28 +82,31 @@ fn add_imports<'a>(
     Ok(())
 }
 
-/// Returns the changes that make the world of an empty one. They borrow the contents of its imports, and copy all else.
-pub fn changes_of<'a>(alloc: Global, world: &'a Loaded) -> Result<Vec<Change<'a>>, Fault>
+/// Returns the changes that make the world of these parts and imports of an empty one. They borrow the contents of its
+/// imports, and take all else.
+pub fn changes_of<'a>(
+    alloc: Global,
+    parts: LoadedParts,
+    imports: &'a [Imported],
+) -> Result<Vec<Change<'a>>, Fault>
     // The world is of the present version and in order, and its imports may be kept.
-    requires { MayBeRefilled world.now }
+    requires { MayBeRefilled (world_of_parts parts imports.now) }
     // The next number and classes are set; each workunit is added; grants and archived rows are
     // kept from the first place on; imports are kept.
-    ensures changes { IfOk result (λ changes. Refills world.now changes.items) }
+    ensures changes { IfOk result (λ changes.
+        Refills (world_of_parts parts imports.now) changes.items) }
     // Of an empty world they make exactly this one, and each of them may be made where it comes.
-    ensures makes { IfOk result (λ changes. MakesTheWorld world.now changes.items) }
+    ensures makes { IfOk result (λ changes.
+        MakesTheWorld (world_of_parts parts imports.now) changes.items) }
     // The only fault is out of memory.
     ensures fault { IfErr result (λ fault. fault ≡ Memory) }
 {
     let mut changes = Vec::new(alloc);
-    changes.push(Change::Next(world.next_number()))?;
-    add_classes(&mut changes, world.classes())?;
-    add_workunits(alloc, &mut changes, world.workunits())?;
-    add_grants(alloc, &mut changes, world.grants())?;
-    with_archived(
-        &mut changes,
-        1,
-        copies_of_archived(alloc, world.archived())?,
-    )?;
-    add_imports(alloc, &mut changes, world.imports())?;
+    changes.push(Change::Next(parts.next_number))?;
+    add_classes(&mut changes, parts.classes)?;
+    add_workunits(&mut changes, parts.workunits)?;
+    add_grants(alloc, &mut changes, parts.grants)?;
+    with_archived(&mut changes, 1, parts.archived)?;
+    add_imports(alloc, &mut changes, imports)?;
     Ok(changes)
 }

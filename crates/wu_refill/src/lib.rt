@@ -5,7 +5,6 @@
 //! returns what was written, and nobody else writes the file.
 #![tactic(auto)]
 
-mod copies;
 mod filling;
 pub mod laws;
 mod loading;

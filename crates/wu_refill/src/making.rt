@@ -31,21 +31,17 @@ impl<'a> TransactionWork for Filling<'a> {
 ///
 /// `NotAProject` means that a statement was refused. After `Memory` or `Broken` a later opening of the files may find
 /// the tables as they were, or with the world.
-pub fn refill<S: Alter>(
-    conn: &mut Connection<S>,
-    alloc: Global,
-    world: &Loaded,
-) -> Result<(), Fault>
+pub fn refill<S: Alter>(conn: &mut Connection<S>, alloc: Global, world: Loaded) -> Result<(), Fault>
     // The connection is not inside a transaction.
     requires idle { conn.old.in_transaction ≡ false }
     // The world is of the present version and in order, and its imports may be kept.
-    requires may { MayBeRefilled world.now }
+    requires may { MayBeRefilled world }
     // Afterwards the connection is not inside a transaction.
     ensures mode { conn.new.in_transaction ≡ false }
     // With Ok, tables that represented the empty world represent this one, and that is committed.
     // The tables of other programs stay. The connection is open, and a crash leaves only these
     // tables.
-    ensures done { Commits S.Store conn.old conn.new result (MakesOfEmpty world.now) }
+    ensures done { Commits S.Store conn.old conn.new result (MakesOfEmpty world) }
     // Each fault is one of the store: `Memory`, `Broken` or `NotAProject`.
     ensures told { IfErr result IsStoreFault }
     // After `NotAProject` the connection is open, the tables are as before, and a crash leaves only
@@ -55,9 +51,10 @@ pub fn refill<S: Alter>(
     ensures back { OnErr result (GoesBack S.Store conn.old conn.new) }
     // Whatever the answer, a crash leaves what it could have left before the call, or the tables
     // with the world.
-    ensures crash { CrashAllows S.Store conn.old conn.new (MakesOfEmpty world.now) }
+    ensures crash { CrashAllows S.Store conn.old conn.new (MakesOfEmpty world) }
 {
-    let changes = changes_of(alloc, world)?;
+    let (parts, imports) = world.into_parts();
+    let changes = changes_of(alloc, parts, imports.as_slice())?;
     transact(conn, &Filling(changes.as_slice()))
 }
 
@@ -68,23 +65,23 @@ pub fn refill<S: Alter>(
 pub fn create_filled<S: Alter>(
     conn: &mut Connection<S>,
     alloc: Global,
-    world: &Loaded,
+    world: Loaded,
 ) -> Result<(), Fault>
     // The connection is not inside a transaction.
     requires idle { conn.old.in_transaction ≡ false }
     // The world is of the present version and in order, and its imports may be kept.
-    requires may { MayBeRefilled world.now }
+    requires may { MayBeRefilled world }
     // Afterwards the connection is not inside a transaction.
     ensures mode { conn.new.in_transaction ≡ false }
     // With Ok, none of a project's names was taken. The tables represent the world, and that is
     // committed. The tables of other programs stay, if they have no foreign key. The connection is
     // open, and a crash leaves only these tables.
-    ensures done { Commits S.Store conn.old conn.new result (MakesFilled world.now) }
+    ensures done { Commits S.Store conn.old conn.new result (MakesFilled world) }
     // Each fault is one of the store: `Memory`, `Broken` or `NotAProject`.
     ensures told { IfErr result IsStoreFault }
     // Whatever the answer, a crash leaves what it could have left before the call, or an empty
     // project, or one with the world.
-    ensures crash { CrashAllows S.Store conn.old conn.new (IsFreshOrFilled world.now) }
+    ensures crash { CrashAllows S.Store conn.old conn.new (IsFreshOrFilled world) }
 {
     create(conn)?;
     refill(conn, alloc, world)

@@ -4,8 +4,8 @@ use Rattle.wu_core.specs.Limits.{most_instances}
 use Rattle.wu_loader.proofs.DealLemmas.{taken_more}
 use Rattle.wu_loader.proofs.dealing.take_instances.Goals as goal
 
-pub each-preserved-in-Continue-1 : goal.each-preserved-in-Continue-1
-each-preserved-in-Continue-1 c =
+pub each-preserved-in-Continue-branch-2 : goal.each-preserved-in-Continue-branch-2
+each-preserved-in-Continue-branch-2 c =
     let grown : c.push.new.self.items ≡ c.each.instances.items ++ c.in-Some.placed.instance ∷ [] = search rules in
     let low : length c.each.instances.items < most_instances = search rules in
     let long = length-append c.each.instances.items (c.in-Some.placed.instance ∷ []) in

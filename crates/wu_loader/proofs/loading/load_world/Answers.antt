@@ -1,71 +1,72 @@
-use Rattle.wu_schema.proofs.Words.{Database, Err, HasTables, IsDatabase, Ok, inr, state, subst, sym}
-use Rattle.wu_core.specs.declared.fault.Fault.TheVariants.{Memory}
+use Rattle.wu_schema.proofs.Words.{Database, Err, Fault, HasTables, IfOk, IsDatabase, IsErrAnd, Ok, Result, state, subst, sym, ◌≡◌}
 use Rattle.wu_schema.proofs.AskingLemmas.{asks_made, asks_unchanged}
 use Rattle.wu_store.proofs.PlacedLemmas.{world_rises}
 use Rattle.wu_store.proofs.AskLemmas.{never_err}
-use Rattle.wu_loader.specs.Asked.{HasArranged, LooksAtTables}
+use Rattle.wu_loader.specs.Asked.{HasArranged}
+use Rattle.wu_loader.specs.Finding.{ShowsFound}
 use Rattle.wu_loader.specs.Shown.{ShowsTables}
 use Rattle.wu_loader.specs.Worlds.{AreRowsOf}
 use Rattle.wu_loader.specs.declared.finding.Found.{Found}
 use Rattle.wu_loader.specs.declared.finding.Found.TheVariants as found
-use Rattle.wu_loader.proofs.LookLemmas.{looks_fault, memory_other}
+use Rattle.wu_loader.proofs.LookLemmas.{looked, looks_fault, looks_made, looks_memory}
 use Rattle.wu_loader.proofs.StandLemmas.{rows_stand, stands_arranged, stands_shown}
-use Rattle.wu_loader.proofs.loading.load_world.Given
 use Rattle.wu_loader.proofs.loading.load_world.Goals as goal
-use Rattle.wu_loader.proofs.loading.load_world.Goals.{After-from_residual}
 
--- a fault of the questions is handed on
-handed : (g : Given.Over) (c : After-from_residual g) → LooksAtTables {T = Found} c.args.version g.S.Store c.args.conn.now c.table_rows.new.conn c.from_residual.result (λ db trees found. Unit {0})
-handed g c = looks_fault c.args.version g.S.Store c.args.conn.now c.table_rows.new.conn c.in_err-rows.field-0.0 _ (λ db trees found. Unit {0}) c.in_err-rows.ensures c.from_residual.result c.from_residual.ensures.1
+-- a fault is no answer
+unanswered : (fault : Fault) (Holds : Found → Type 0) (r : Result Found Fault) → IsErrAnd r (λ other. other ≡ fault) → IfOk r Holds
+unanswered fault Holds (Ok answer) told = absurd told
+unanswered fault Holds (Err other) told = tt
 
-pub returns-in_err-rows-clause-asks : goal.returns-in_err-rows-clause-asks
-returns-in_err-rows-clause-asks g c = (handed g c).asks
+pub returns-in_err-rows : goal.returns-in_err-rows
+returns-in_err-rows g c = record {
+  looks = looks_fault c.args.version g.S.Store _ _ c.in_err-rows.field-0.0 _ (ShowsFound c.args.version) c.in_err-rows.ensures c.from_residual.result c.from_residual.ensures.1;
+  none = λ clean. unanswered _ _ c.from_residual.result c.from_residual.ensures.1;
+}
 
-pub returns-in_err-rows-clause-opens : goal.returns-in_err-rows-clause-opens
-returns-in_err-rows-clause-opens g c = (handed g c).opens
-
-pub returns-in_err-rows-clause-fault : goal.returns-in_err-rows-clause-fault
-returns-in_err-rows-clause-fault g c = (handed g c).fault
-
-pub returns-in_err-rows-clause-answered : goal.returns-in_err-rows-clause-answered
-returns-in_err-rows-clause-answered g c = (handed g c).answered
-
-pub returns-in-Ok-clause-asks : goal.returns-in-Ok-clause-asks
-returns-in-Ok-clause-asks g c = asks_made g.S.Store c.args.conn.now c.table_rows.new.conn c.in_ok-rows.rows (Ok (found.World c.in-Ok.loaded)) (never_err (found.World c.in-Ok.loaded)) c.in_ok-rows.ensures.asks
-
-pub returns-in-Ok-clause-opens : goal.returns-in-Ok-clause-opens
-returns-in-Ok-clause-opens g c = c.in_ok-rows.ensures.opens
-
-pub returns-in-Ok-clause-world : goal.returns-in-Ok-clause-world
-returns-in-Ok-clause-world g c clean trees has whole =
+pub returns-in-Ok : goal.returns-in-Ok
+returns-in-Ok g c =
     let db : Database = (state g.S.Store c.args.conn.now).now in
     let asked = c.in_ok-rows.ensures in
-    let sound : IsDatabase db = (c.schema.ensures.live (asks_unchanged g.S.Store c.args.conn.now c.table_rows.new.conn c.in_ok-rows.rows asked.asks asked.opens clean).0.was_open).0 in
     let are = c.in-Ok.ensures.world in
-    record { trees = trees; tables = subst (λ v. HasTables v db.schema trees) (sym are.version) has.tables; rows = rows_stand c.args.version db trees c.in_ok-rows.rows.plain c.in-Ok.loaded sound has (asked.says clean trees has).plain are.plain whole c.in_ok-rows.rows.classes (asked.says clean trees has).classes are.classes are.in_order are.version; sound = sound }
+    record {
+      looks = record {
+        asks = asks_made g.S.Store c.args.conn.now c.table_rows.new.conn c.in_ok-rows.rows (Ok (found.World c.in-Ok.loaded)) (never_err (found.World c.in-Ok.loaded)) asked.asks;
+        opens = asked.opens;
+        says = λ clean trees has whole.
+            let sound : IsDatabase db = (c.schema.ensures.live (asks_unchanged g.S.Store c.args.conn.now c.table_rows.new.conn c.in_ok-rows.rows asked.asks asked.opens clean).0.was_open).0 in
+            let shown = asked.says clean trees has in
+            record {
+              trees = trees;
+              tables = subst (λ v. HasTables v db.schema trees) (sym are.version) has.tables;
+              rows = rows_stand c.args.version db trees c.in_ok-rows.rows.plain c.in-Ok.loaded sound has shown.plain are.plain whole c.in_ok-rows.rows.classes shown.classes are.classes are.in_order are.version;
+              sound = sound;
+            };
+        fault = tt;
+        answered = λ clean trees has unlimited. tt;
+      };
+      none = λ clean. tt;
+    }
 
-pub returns-in-Err-Wrong-clause-none : goal.returns-in-Err-Wrong-clause-none
-returns-in-Err-Wrong-clause-none g c clean world readable is stands =
+pub returns-in-Err-Wrong : goal.returns-in-Err-Wrong
+returns-in-Err-Wrong g c =
+    let version = c.args.version in
+    let rows = c.in_ok-rows.rows in
     let db : Database = (state g.S.Store c.args.conn.now).now in
-    let shown = c.in_ok-rows.ensures.says clean stands.trees (subst (λ v. HasArranged v db stands.trees) is (record { tables = stands.tables; arranged = stands_arranged db stands.trees world stands.rows })) in
     let none = rw c.in-Err-Wrong.field-0-is at c.in-Err-Wrong.ensures.none in
-    none world readable (world_rises db world stands) (subst (λ v. AreRowsOf v c.in_ok-rows.rows world) is (stands_shown db stands.trees world stands.rows c.in_ok-rows.rows (subst (λ v. ShowsTables v db.trees stands.trees c.in_ok-rows.rows) (sym is) shown)))
+    let told = rw c.in-Err-Wrong.field-0-is at c.in-Err-Wrong.ensures.told in
+    record {
+      looks = looks_made version g.S.Store _ _ _ (found.Wrong c.in-Err-Wrong.wrong) (ShowsFound version) (λ db trees shown. record { rows = rows; shown = shown; is = told })
+          (looked version g.S.Store _ _ rows (λ db trees rows. ShowsTables version db.trees trees rows) c.in_ok-rows.ensures);
+      none = λ clean world readable is stands.
+          let shown = c.in_ok-rows.ensures.says clean stands.trees (subst (λ v. HasArranged v db stands.trees) is (record { tables = stands.tables; arranged = stands_arranged db stands.trees world stands.rows })) in
+          none world readable (world_rises db world stands)
+          (subst (λ v. AreRowsOf v rows world) is (stands_shown db stands.trees world stands.rows rows (subst (λ v. ShowsTables v db.trees stands.trees rows) (sym is) shown)));
+    }
 
-pub returns-in-Err-Wrong-clause-asks : goal.returns-in-Err-Wrong-clause-asks
-returns-in-Err-Wrong-clause-asks g c = asks_made g.S.Store c.args.conn.now c.table_rows.new.conn c.in_ok-rows.rows (Ok (found.Wrong c.in-Err-Wrong.wrong)) (never_err (found.Wrong c.in-Err-Wrong.wrong)) c.in_ok-rows.ensures.asks
-
-pub returns-in-Err-Wrong-clause-opens : goal.returns-in-Err-Wrong-clause-opens
-returns-in-Err-Wrong-clause-opens g c = c.in_ok-rows.ensures.opens
-
-pub returns-in-Err-Memory-clause-asks : goal.returns-in-Err-Memory-clause-asks
-returns-in-Err-Memory-clause-asks g c = asks_made g.S.Store c.args.conn.now c.table_rows.new.conn c.in_ok-rows.rows (Err Memory) memory_other c.in_ok-rows.ensures.asks
-
-pub returns-in-Err-Memory-clause-opens : goal.returns-in-Err-Memory-clause-opens
-returns-in-Err-Memory-clause-opens g c clean = inr (c.in_ok-rows.ensures.opens clean)
-
-pub returns-in-Err-Wrong-clause-told : goal.returns-in-Err-Wrong-clause-told
-returns-in-Err-Wrong-clause-told g c clean trees has = record {
-  rows = c.in_ok-rows.rows;
-  shown = c.in_ok-rows.ensures.says clean trees has;
-  is = rw c.in-Err-Wrong.field-0-is at c.in-Err-Wrong.ensures.told;
-}
+pub returns-in-Err-Memory : goal.returns-in-Err-Memory
+returns-in-Err-Memory g c =
+    let version = c.args.version in
+    record {
+      looks = looks_memory version g.S.Store _ _ _ (ShowsFound version) (looked version g.S.Store _ _ c.in_ok-rows.rows (λ db trees rows. ShowsTables version db.trees trees rows) c.in_ok-rows.ensures);
+      none = λ clean. tt;
+    }

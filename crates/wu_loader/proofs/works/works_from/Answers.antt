@@ -26,7 +26,7 @@ returns-in_err-placed-clause-none c =
 pub returns-clause-works : goal.returns-clause-works
 returns-clause-works c =
     if_ok c.deal.result _ _ (λ dealt are.
-    works_are c.args.rows c.args.instances c.in_ok-workunits.workunits.items c.in_ok-workunits.ensures.same c.in_ok-placed.placed.items c.from-queue.result.items c.in_ok-placed.ensures.same (rw c.from-queue.ensures.0 c.in_ok-sort.ensures.same) dealt.items are) c.deal.ensures.dealt
+    works_are c.args.rows c.args.instances c.in_ok-workunits.workunits.items c.in_ok-workunits.ensures.same c.in_ok-placed.placed.items c.from-queue.result.items c.in_ok-placed.ensures.same (rw c.from-queue.ensures.0 c.sort.ensures.same) dealt.items are) c.deal.ensures.dealt
 
 pub returns-clause-workunits : goal.returns-clause-workunits
 returns-clause-workunits c =
@@ -37,14 +37,14 @@ returns-clause-results c =
     if_ok c.deal.result (λ dealt. AreDealt c.in_ok-workunits.workunits.items c.from-queue.result.items dealt.items) _ (λ dealt are. record {
       values = record { values = c.in_ok-placed.placed.items; stored = c.in_ok-placed.ensures.each; same = c.in_ok-placed.ensures.same };
       workunits = dealt.items;
-      rows_are = works_are c.args.rows c.args.instances c.in_ok-workunits.workunits.items c.in_ok-workunits.ensures.same c.in_ok-placed.placed.items c.from-queue.result.items c.in_ok-placed.ensures.same (rw c.from-queue.ensures.0 c.in_ok-sort.ensures.same) dealt.items are;
+      rows_are = works_are c.args.rows c.args.instances c.in_ok-workunits.workunits.items c.in_ok-workunits.ensures.same c.in_ok-placed.placed.items c.from-queue.result.items c.in_ok-placed.ensures.same (rw c.from-queue.ensures.0 c.sort.ensures.same) dealt.items are;
       few = are.few;
     }) c.deal.ensures.dealt
 
 pub returns-clause-none : goal.returns-clause-none
 returns-clause-none c =
     refused c.deal.result _ _ (λ wrong none works ordered storable are.
-    none (map classless works) (ordered_unclassed works ordered) (works_dealt c.args.rows c.args.instances c.in_ok-workunits.workunits.items c.in_ok-workunits.ensures.same c.in_ok-placed.placed.items c.from-queue.result.items c.in_ok-placed.ensures.same (rw c.from-queue.ensures.0 c.in_ok-sort.ensures.same) c.in_ok-workunits.ensures.each (rw c.from-queue.ensures.0 c.in_ok-sort.ensures.sorted) works ordered storable are)) c.deal.ensures.none
+    none (map classless works) (ordered_unclassed works ordered) (works_dealt c.args.rows c.args.instances c.in_ok-workunits.workunits.items c.in_ok-workunits.ensures.same c.in_ok-placed.placed.items c.from-queue.result.items c.in_ok-placed.ensures.same (rw c.from-queue.ensures.0 c.sort.ensures.same) c.in_ok-workunits.ensures.each (rw c.from-queue.ensures.0 c.sort.ensures.sorted) works ordered storable are)) c.deal.ensures.none
 
 pub returns-in_err-workunits-clause-told : goal.returns-in_err-workunits-clause-told
 returns-in_err-workunits-clause-told c = handed c.from_residual.result c.in_err-workunits.field-0.0 _ _ (λ wrong none. inl (none.0, none.1)) c.from_residual.ensures.1 c.in_err-workunits.ensures.none
@@ -66,7 +66,7 @@ returns-clause-told c =
           workunits = c.in_ok-workunits.workunits.items;
           rows_are = c.in_ok-workunits.ensures.same ∙ rows_plain workunit_row c.in_ok-workunits.workunits.items;
           placed = sorted;
-          read = sorted_rows placed_row IsStoredPlaced by_place c.args.instances c.in_ok-placed.placed.items sorted c.in_ok-placed.ensures.same c.in_ok-placed.ensures.each (rw c.from-queue.ensures.0 c.in_ok-sort.ensures.same) (rw c.from-queue.ensures.0 c.in_ok-sort.ensures.sorted);
+          read = sorted_rows placed_row IsStoredPlaced by_place c.args.instances c.in_ok-placed.placed.items sorted c.in_ok-placed.ensures.same c.in_ok-placed.ensures.each (rw c.from-queue.ensures.0 c.sort.ensures.same) (rw c.from-queue.ensures.0 c.sort.ensures.sorted);
           undealt = it.1;
         }),
       ),

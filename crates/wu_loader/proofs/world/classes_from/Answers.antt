@@ -26,8 +26,8 @@ returns c =
 
 pub returns-in_default-clause-found : goal.returns-in_default-clause-found
 returns-in_default-clause-found c =
-    subst (λ (rows : Option ClassRows). HasClassesOf c.args.workunits.items rows (record { workunits = c.in_ok-without_classes.field-0; hosts = c.new.result })) (sym c.in_default.is)
-    (found_none c.args.workunits.items (record { workunits = c.in_ok-without_classes.field-0; hosts = c.new.result }) c.in_ok-without_classes.ensures c.new.ensures.items)
+    subst (λ (rows : Option ClassRows). HasClassesOf c.args.workunits.items rows (record { workunits = c.without_classes.result; hosts = c.new.result })) (sym c.in_default.is)
+    (found_none c.args.workunits.items (record { workunits = c.without_classes.result; hosts = c.new.result }) c.without_classes.ensures c.new.ensures.items)
 
 pub returns-in_err-classes-clause-none : goal.returns-in_err-classes-clause-none
 returns-in_err-classes-clause-none c =
@@ -51,9 +51,9 @@ hosts_right rows classes same in_order stored = record { classes = classes; stor
 pub returns-in_err-hosts-clause-told : goal.returns-in_err-hosts-clause-told
 returns-in_err-hosts-clause-told c =
     let works = map workunit_row c.args.workunits.items in
-    handed c.from_residual-in_err-hosts.result c.in_err-hosts.field-0.0 _ _ (λ wrong it. subst (λ (rows : Option ClassRows). IsFirstClass works rows wrong) (sym c.in-Some.is)
+    handed c.from_residual.result c.in_err-hosts.field-0.0 _ _ (λ wrong it. subst (λ (rows : Option ClassRows). IsFirstClass works rows wrong) (sym c.in-Some.is)
     (first_host_class works c.in-Some.rows wrong it.0 it.1))
-    c.from_residual-in_err-hosts.ensures.1 c.in_err-hosts.ensures.told
+    c.from_residual.ensures.1 c.in_err-hosts.ensures.told
 
 pub returns-in_err-classes-clause-told : goal.returns-in_err-classes-clause-told
 returns-in_err-classes-clause-told c =
