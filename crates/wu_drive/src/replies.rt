@@ -5,7 +5,7 @@ ghost use Rattle.wu_core.specs.declared.fault.Fault.TheVariants.{Output};
 ghost use Rattle.wu_drive.specs.Texts.{batch_text, classes_text, import_text, reply_text};
 ghost use Rattle.wu_machine.specs.Requests.{Cancelled, Passed, Upgraded};
 ghost use Rattle.wu_drive.specs.Writing.{answer_text, applied_text};
-ghost use Rattle.wu_report.specs.Writing.{CutsWhatFails, WritesTo};
+ghost use Rattle.wu_report.specs.Writing.{Prints, WritesTo};
 
 use std::io::Write;
 use wu_core::{Fault, ImportKind, Name};
@@ -21,11 +21,7 @@ fn write_applied<W: Write>(
     name: &Name,
     verdicts: &[u8],
 ) -> Result<(), Fault>
-    ensures bytes { WritesTo W.contents out.old out.new
-        (applied_text kind name.now verdicts.now) result }
-    ensures cut { CutsWhatFails W.contents out.old out.new
-        (applied_text kind name.now verdicts.now) result }
-    ensures fault { IsOkUnless result Output }
+    ensures { Prints W.contents out.old out.new (applied_text kind name.now verdicts.now) result }
 {
     let applied = applied_count(verdicts);
     write_pieces(
@@ -46,11 +42,7 @@ fn write_applied<W: Write>(
 
 /// Writes how many workunits a batch added, and the first one's number.
 fn write_batch<W: Write>(out: &mut W, name: &Name, first: u64, verdicts: &[u8]) -> Result<(), Fault>
-    ensures bytes { WritesTo W.contents out.old out.new
-        (batch_text name.now first verdicts.now) result }
-    ensures cut { CutsWhatFails W.contents out.old out.new
-        (batch_text name.now first verdicts.now) result }
-    ensures fault { IsOkUnless result Output }
+    ensures { Prints W.contents out.old out.new (batch_text name.now first verdicts.now) result }
 {
     write_pieces(
         out,
@@ -68,11 +60,7 @@ fn write_batch<W: Write>(out: &mut W, name: &Name, first: u64, verdicts: &[u8]) 
 
 /// Writes how many rows of a file of classes were applied: all are.
 fn write_classes<W: Write>(out: &mut W, name: &Name, verdicts: &[u8]) -> Result<(), Fault>
-    ensures bytes { WritesTo W.contents out.old out.new
-        (classes_text name.now verdicts.now) result }
-    ensures cut { CutsWhatFails W.contents out.old out.new
-        (classes_text name.now verdicts.now) result }
-    ensures fault { IsOkUnless result Output }
+    ensures { Prints W.contents out.old out.new (classes_text name.now verdicts.now) result }
 {
     write_pieces(
         out,
@@ -94,11 +82,8 @@ fn write_import<W: Write>(
     first: u64,
     verdicts: &[u8],
 ) -> Result<(), Fault>
-    ensures bytes { WritesTo W.contents out.old out.new
+    ensures { Prints W.contents out.old out.new
         (import_text kind name.now first verdicts.now) result }
-    ensures cut { CutsWhatFails W.contents out.old out.new
-        (import_text kind name.now first verdicts.now) result }
-    ensures fault { IsOkUnless result Output }
 {
     match kind {
         ImportKind::Batch => write_batch(out, name, first, verdicts),
@@ -109,10 +94,7 @@ fn write_import<W: Write>(
 
 /// Writes how many workunits a pass changed.
 fn write_passed<W: Write>(out: &mut W, pass: Pass, handled: u32) -> Result<(), Fault>
-    ensures bytes { WritesTo W.contents out.old out.new (reply_text (Passed pass handled)) result }
-    ensures cut { CutsWhatFails W.contents out.old out.new
-        (reply_text (Passed pass handled)) result }
-    ensures fault { IsOkUnless result Output }
+    ensures { Prints W.contents out.old out.new (reply_text (Passed pass handled)) result }
 {
     write_pieces(
         out,
@@ -127,9 +109,7 @@ fn write_passed<W: Write>(out: &mut W, pass: Pass, handled: u32) -> Result<(), F
 
 /// Writes which version the schema had, and which it has.
 fn write_upgraded<W: Write>(out: &mut W, from: u64, to: u64) -> Result<(), Fault>
-    ensures bytes { WritesTo W.contents out.old out.new (reply_text (Upgraded from to)) result }
-    ensures cut { CutsWhatFails W.contents out.old out.new (reply_text (Upgraded from to)) result }
-    ensures fault { IsOkUnless result Output }
+    ensures { Prints W.contents out.old out.new (reply_text (Upgraded from to)) result }
 {
     write_pieces(
         out,
@@ -145,11 +125,7 @@ fn write_upgraded<W: Write>(out: &mut W, from: u64, to: u64) -> Result<(), Fault
 
 /// Writes that a workunit was given up.
 fn write_cancelled<W: Write>(out: &mut W, workunit: &Name) -> Result<(), Fault>
-    ensures bytes { WritesTo W.contents out.old out.new
-        (reply_text (Cancelled workunit.now)) result }
-    ensures cut { CutsWhatFails W.contents out.old out.new
-        (reply_text (Cancelled workunit.now)) result }
-    ensures fault { IsOkUnless result Output }
+    ensures { Prints W.contents out.old out.new (reply_text (Cancelled workunit.now)) result }
 {
     write_pieces(
         out,
@@ -164,13 +140,9 @@ fn write_cancelled<W: Write>(out: &mut W, workunit: &Name) -> Result<(), Fault>
 
 /// Writes the text of an answer. One that went out whole is never reported as failed.
 fn write_answer_text<W: Write>(out: &mut W, answer: &Answer) -> Result<(), Fault>
-    // With Ok exactly the text of the answer is written, and else a prefix of it.
-    ensures bytes { WritesTo W.contents out.old out.new (answer_text answer.now) result }
-    // After a fault some of the text is missing: a text that went out whole is never reported as
-    // failed.
-    ensures cut { CutsWhatFails W.contents out.old out.new (answer_text answer.now) result }
-    // The only fault is `Output`.
-    ensures fault { IsOkUnless result Output }
+    // With Ok exactly the text of the answer is written. Else the fault is `Output`, and a part of it
+    // is missing.
+    ensures { Prints W.contents out.old out.new (answer_text answer.now) result }
 {
     match answer {
         Answer::Imported {

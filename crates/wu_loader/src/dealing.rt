@@ -74,8 +74,20 @@ fn take_instances(
     Ok(instances)
 }
 
+/// Gives back the memory of the instances that were taken, each time that an eighth is free. No instance goes.
+fn give_back(left: &mut VecDeque<Placed>)
+    ensures { left.new.items ≡ left.old.items }
+{
+    let capacity = left.capacity();
+    if left.len() < capacity - capacity / 8 {
+        left.shrink_to_fit();
+    }
+}
+
 /// Returns the workunits with these instances, which are in order. Returns the first result that is of none of them, or
 /// one too many of a workunit.
+///
+/// The memory of the instances goes over to the workunits bit by bit.
 pub(crate) fn deal(
     alloc: Global,
     workunits: Vec<Workunit>,
@@ -97,6 +109,7 @@ pub(crate) fn deal(
     for workunit in dealt.iter_mut() {
         let instances = take_instances(alloc, workunit.number, &mut left)?;
         workunit.instances = Instances::from_vec(instances);
+        give_back(&mut left);
     }
     if left.is_empty() {
         Ok(dealt)

@@ -18,12 +18,14 @@ pub fn load_world<S: Alter>(
     alloc: Global,
     version: u64,
 ) -> Result<Found, Fault>
-    // Only reads; with no limit on steps its only faults over tables of this version are `Memory` and
-    // `Broken`. If their rows are in rowid order, and those of workunits whole, they represent the
-    // world that is returned. A reported row is the first missing or invalid one in the written
-    // order, and then they represent no readable world of this version. Tables are counted by key,
-    // results by workunit and number, hosts and classes by name; imports, and unreadable rows
-    // without a key, in any order.
+    // Begins no transaction and commits nothing. Except after `Memory` and `Broken` all is as
+    // before, and the connection open. The fault is `Memory`, `Broken` or `NotAProject`; over
+    // tables of this version, with no limit on steps, never `NotAProject`. If their rows are in
+    // rowid order, and those of workunits whole, they represent the world that is returned. A
+    // reported row is the first missing or invalid one in the written order, and then they
+    // represent no readable world of this version. Tables are counted by key, results by workunit
+    // and number, hosts and classes by name; imports, and unreadable rows without a key, in any
+    // order.
     ensures { LoadsTables version S.Store conn.old conn.new result }
 {
     // that there is a schema means that the tables obey it

@@ -18,7 +18,7 @@ use Rattle.wu_report.proofs.ViewLemmas.{never_output, other_fault, outputs_cut}
 use Rattle.wu_report.proofs.WalkedLemmas.{present_answer, present_done, present_output}
 use Rattle.wu_report.proofs.WritingLemmas.{AppendsFront-nothing, Writes-failed}
 use Rattle.wu_report.specs.Views.{CutsOutput, WritesView}
-use Rattle.wu_report.specs.Writing.{CutsWhatFails, WritesTo}
+use Rattle.wu_report.specs.Writing.{Prints, WritesTo}
 
 module _ {S W T : Type 0} {g : Ghosts S} (contents : W → Option (List ℕ)) (old new : Project S g) {Over : Database → World → Type 0} {Finds : Result T Fault → World → Type 0} {Can : World → Type 0} (over : (db : Database) (world : World) → KnowsClasses world → StandsFor db world → Over db world) (text_of : World → List ℕ) where
   -- a question that is refused: nothing is written
@@ -45,15 +45,15 @@ module _ {S W T : Type 0} {g : Ghosts S} (contents : W → Option (List ℕ)) (o
         is world (it.found clean world (over _ world knows (shows ((it.asks.back clean).was_open (it.opens going (present_done old new answer going it.early) clean))).0))
 
     -- its text is written
-    pub looked_written : {U : Type 0} (out_old out_new : W) (text : List ℕ) (r : Result U Fault) → ((world : World) → Finds (Ok answer) world → text ≡ text_of world) → WritesTo contents out_old out_new text r → CutsWhatFails contents out_old out_new text r → IsOkUnless r Output → WritesView contents old new out_old out_new text_of Can r
-    looked_written out_old out_new text r is bytes cut only = record {
+    pub looked_written : {U : Type 0} (out_old out_new : W) (text : List ℕ) (r : Result U Fault) → ((world : World) → Finds (Ok answer) world → text ≡ text_of world) → Prints contents out_old out_new text r → WritesView contents old new out_old out_new text_of Can r
+    looked_written out_old out_new text r is printed = record {
       early = search rules;
       reads = search rules;
       opens = search rules;
-      text = λ going clean world knows shows. subst (λ t. WritesTo contents out_old out_new t r) (found text is going clean world knows shows) bytes;
+      text = λ going clean world knows shows. subst (λ t. WritesTo contents out_old out_new t r) (found text is going clean world knows shows) printed.bytes;
       cut = λ going clean world knows shows.
-          subst (λ t. CutsOutput (contents out_old) (contents out_new) t r) (found text is going clean world knows shows) (outputs_cut _ _ _ r cut);
-      fault = search rules;
+          subst (λ t. CutsOutput (contents out_old) (contents out_new) t r) (found text is going clean world knows shows) (outputs_cut _ _ _ r printed.cut);
+      fault = search (rules, printed.fault);
       unrefused = search rules;
       broke = search rules;
     }

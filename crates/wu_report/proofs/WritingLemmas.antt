@@ -1,13 +1,14 @@
 -- One write after another.
-use Rattle.std.proofs.Common.{◌≡◌, ℕ, zero, ◌+◌, ◌-◌, ◌<◌, List, [], ◌∷◌, ◌++◌, length, take, drop, get_or, flat_map, Option, Result, Ok, Err, sym, ap, arith, subst, ◌∙◌, append_assoc, append-nil, length-append, take-append-drop}
+use Rattle.std.proofs.Common.{◌≡◌, ℕ, zero, ◌+◌, ◌-◌, ◌<◌, List, [], ◌∷◌, ◌++◌, length, take, drop, get_or, flat_map, Option, Result, Ok, Err, refl, sym, ap, arith, subst, ◌∙◌, append_assoc, append-nil, length-append, take-append-drop}
 use Rattle.std.proofs.Math.Seq.{take-append-add, take-append_seam}
 use Rattle.std.proofs.lemmas.List.{take-append-le, take_rest, take_all, take_more, drop_more}
 use Rattle.std.proofs.lemmas.List.Concat.{flat_map-append}
 use Rattle.std.proofs.KnownBytes.{Appends-nil, Appends-trans, Appends-kept}
 use Rattle.std.specs.Io.KnownBytes.{Appends, Keeps}
-use Rattle.std.specs.Prelude.{IfErr}
-use Rattle.std.specs.Result.{IsErr}
-use Rattle.wu_report.specs.Writing.{AppendsFront, IsCut, WritesBytes}
+use Rattle.std.specs.Result.{IsErr, IsErrAnd}
+use Rattle.wu_core.specs.declared.fault.Fault.{Fault}
+use Rattle.wu_core.specs.declared.fault.Fault.TheVariants.{Output}
+use Rattle.wu_report.specs.Writing.{AppendsFront, IsCut, Prints, WritesBytes}
 
 -- a front of the first part is a front of the whole
 pub AppendsFront-longer : (a b : Option (List ℕ)) (xs ys : List ℕ) → AppendsFront a b xs → AppendsFront a b (xs ++ ys)
@@ -89,16 +90,6 @@ IsCut-after a b c xs ys whole (count, less, h) =
     let longer : length xs + count < length (xs ++ ys) = omega (arith, length-append xs ys, less) in
     (length xs + count, longer, subst (Appends a c) (sym (take-append-add xs ys count)) (Appends-trans a b c xs (take count ys) whole h))
 
--- a call that failed, and cut the bytes
-pub cut_failed : {T E : Type 0} (a b : Option (List ℕ)) (bytes : List ℕ) (r : Result T E) → IsErr r → IsCut a b bytes → IfErr r (λ _. IsCut a b bytes)
-cut_failed a b bytes (Ok x) failed h = tt
-cut_failed a b bytes (Err fault) failed h = h
-
--- all of a text was written, and a call that failed cut what comes behind it
-pub cuts_after : {T E : Type 0} (a b c : Option (List ℕ)) (xs ys : List ℕ) (r : Result T E) → Appends a b xs → IfErr r (λ _. IsCut b c ys) → IfErr r (λ _. IsCut a c (xs ++ ys))
-cuts_after a b c xs ys (Ok x) whole cut = tt
-cuts_after a b c xs ys (Err fault) whole cut = IsCut-after a b c xs ys whole cut
-
 -- a part is gone from the front of the rest
 pub moves_front : (all done rest : List ℕ) (n : ℕ) → all ≡ done ++ rest → all ≡ (done ++ take n rest) ++ take (length rest - n) (drop n rest)
 moves_front all done rest n e =
@@ -118,3 +109,36 @@ pub flat_map_next : {X A : Type 0} (f : X → List A) (xs : List X) (i : ℕ) (x
 flat_map_next f xs i x within e =
     ap (flat_map f) (take_more xs i x within ∙ ap (λ y. take i xs ++ y ∷ []) (sym e)) ∙ flat_map-append f (take i xs) (x ∷ [])
     ∙ ap (λ l. flat_map f (take i xs) ++ l) (append-nil (f x))
+
+-- ---- what is printed
+
+module _ {W : Type 0} (contents : W → Option (List ℕ)) where
+  -- all of a text was written
+  pub prints_all : {T : Type 0} (a b : W) (text : List ℕ) (it : T) → Appends (contents a) (contents b) text → Prints contents a b text (Ok it)
+  prints_all a b text it whole = record { bytes = whole; cut = tt; fault = tt }
+
+  -- a text was cut
+  pub prints_cut : {T : Type 0} (a b : W) (text : List ℕ) → IsCut (contents a) (contents b) text → Prints {T = T} contents a b text (Err Output)
+  unfolding IsCut
+  prints_cut a b text (count, less, h) = record { bytes = (count, h); cut = (count, less, h); fault = refl }
+
+  -- a text was written, and then another is printed
+  pub prints_after : {T : Type 0} (a b c : W) (xs ys : List ℕ) (r : Result T Fault) → Appends (contents a) (contents b) xs → Prints contents b c ys r → Prints contents a c (xs ++ ys) r
+  prints_after a b c xs ys (Ok x) whole it = record { bytes = Appends-trans _ _ _ xs ys whole it.bytes; cut = tt; fault = it.fault }
+  prints_after a b c xs ys (Err fault) whole it = record { bytes = AppendsFront-after _ _ _ xs ys whole it.bytes; cut = IsCut-after _ _ _ xs ys whole it.cut; fault = it.fault }
+
+  -- the first part of a text was cut, and its fault is handed on
+  pub prints_failed : {T U : Type 0} (a b : W) (xs ys : List ℕ) (fault : Fault) (r : Result U Fault) → IsErrAnd r (λ other. other ≡ fault) → Prints {T = T} contents a b xs (Err fault) → Prints contents a b (xs ++ ys) r
+  prints_failed a b xs ys fault (Ok x) same it = absurd same
+  prints_failed a b xs ys fault (Err other) same it = record { bytes = AppendsFront-longer _ _ xs ys it.bytes; cut = IsCut-longer _ _ xs ys it.cut; fault = rw same it.fault }
+
+  module _ {X : Type 0} (f : X → List ℕ) (xs : List X) (i : ℕ) (x : X) (within : i < length xs) (at : x ≡ get_or xs i x) (a b c : W) (so_far : Appends (contents a) (contents b) (flat_map f (take i xs))) where
+    -- of a list up to a place one more was printed
+    pub prints_next : Appends (contents b) (contents c) (f x) → Appends (contents a) (contents c) (flat_map f (take (i + 1) xs))
+    prints_next one = subst (Appends _ _) (sym (flat_map_next f xs i x within at)) (Appends-trans _ _ _ (flat_map f (take i xs)) (f x) so_far one)
+
+    -- at a place one of a list was cut, and its fault is handed on
+    pub prints_until : {T U : Type 0} (fault : Fault) (r : Result U Fault) → IsErrAnd r (λ other. other ≡ fault) → Prints {T = T} contents b c (f x) (Err fault) → Prints contents a c (flat_map f xs) r
+    prints_until fault r same it =
+        subst (λ text. Prints contents a c text r) (sym (flat_map_at f xs i x within at))
+        (prints_failed a c (flat_map f (take i xs) ++ f x) (flat_map f (drop (i + 1) xs)) fault r same (prints_after a b c (flat_map f (take i xs)) (f x) (Err fault) so_far it))

@@ -1,8 +1,10 @@
 -- What a call leaves in a writer whose contents are known.
-use Rattle.std.specs.Prelude.{ℕ, ◌<◌, List, length, take, Option, Result, IfErr, MatchResult}
+use Rattle.std.specs.Prelude.{ℕ, ◌<◌, List, length, take, Option, Result, IfErr, IsOkUnless, MatchResult}
 use Rattle.std.specs.Fmt.{decimal}
 use Rattle.std.specs.Io.KnownBytes.{Appends}
 use Rattle.hex.specs.Hex.{encode_lower}
+use Rattle.wu_core.specs.declared.fault.Fault.{Fault}
+use Rattle.wu_core.specs.declared.fault.Fault.TheVariants.{Output}
 use Rattle.wu_report.specs.declared.output.Piece.{Piece}
 use Rattle.wu_report.specs.declared.output.Piece.TheVariants.{Text, Number, Place, When, Due, Hex}
 use Rattle.wu_report.specs.Texts.{or_dash, moment_text}
@@ -26,6 +28,15 @@ IsCut old new bytes = (count : ℕ) × (count < length bytes) × Appends old new
 -- A call that fails has cut the text: a text that went out whole is never reported as failed.
 abbrev pub CutsWhatFails : {W T E : Type 0} → (W → Option (List ℕ)) → W → W → List ℕ → Result T E → Type 0
 CutsWhatFails contents old new text result = IfErr result (λ _. IsCut (contents old) (contents new) text)
+
+-- What a call prints that does not flush.
+pub record Prints {W T : Type 0} (contents : W → Option (List ℕ)) (old new : W) (text : List ℕ) (result : Result T Fault) : Type 0 where
+  -- With Ok exactly the text is written, and else a prefix of it.
+  pub bytes : WritesTo contents old new text result
+  -- What is reported as failed was cut: a text that went out whole never is.
+  pub cut : CutsWhatFails contents old new text result
+  -- The only fault is `Output`.
+  pub fault : IsOkUnless result Output
 
 -- The text of a piece.
 abbrev pub piece_text : Piece → List ℕ

@@ -1,9 +1,8 @@
 //! The lines of views, each written from the values that it shows.
 
-ghost use Rattle.std.specs.Prelude.{◌≡◌, IsOkUnless};
-ghost use Rattle.wu_core.specs.declared.fault.Fault.TheVariants.{Output};
+ghost use Rattle.std.specs.Prelude.{◌≡◌};
 ghost use Rattle.wu_report.specs.Texts.{applied_count, bytes_text, counted, failures_line, next_line, number_or_dash, or_dash, pass_word, summary_lines};
-ghost use Rattle.wu_report.specs.Writing.{CutsWhatFails, piece_text, WritesTo};
+ghost use Rattle.wu_report.specs.Writing.{piece_text, Prints};
 
 use crate::output::{Piece, Printed, write_pieces};
 use std::io::Write;
@@ -244,12 +243,8 @@ pub fn pass_word(pass: Pass) -> &'static str
 
 /// Writes a word and a number, as a line.
 pub fn write_counted<W: Write>(out: &mut W, word: &str, number: u64) -> Result<(), Fault>
-    // With Ok exactly the line is written, and else a prefix of it.
-    ensures bytes { WritesTo W.contents out.old out.new (counted word.now number) result }
-    // What is reported as failed was cut: a line that went out whole never is.
-    ensures cut { CutsWhatFails W.contents out.old out.new (counted word.now number) result }
-    // The only fault is `Output`.
-    ensures fault { IsOkUnless result Output }
+    // With Ok exactly the line is written. Else the fault is `Output`, and a part of it is missing.
+    ensures { Prints W.contents out.old out.new (counted word.now number) result }
 {
     write_pieces(
         out,
@@ -264,9 +259,7 @@ pub fn write_counted<W: Write>(out: &mut W, word: &str, number: u64) -> Result<(
 
 /// Writes the earliest deadline that is still awaited, as a line.
 fn write_next<W: Write>(out: &mut W, deadline: Option<Deadline>) -> Result<(), Fault>
-    ensures bytes { WritesTo W.contents out.old out.new (next_line deadline) result }
-    ensures cut { CutsWhatFails W.contents out.old out.new (next_line deadline) result }
-    ensures fault { IsOkUnless result Output }
+    ensures { Prints W.contents out.old out.new (next_line deadline) result }
 {
     write_pieces(
         out,
@@ -280,9 +273,7 @@ fn write_next<W: Write>(out: &mut W, deadline: Option<Deadline>) -> Result<(), F
 
 /// Writes how many instances of a host ended with an error, and how many without a reply, as a line.
 fn write_failures<W: Write>(out: &mut W, host: &HostFailures) -> Result<(), Fault>
-    ensures bytes { WritesTo W.contents out.old out.new (failures_line host.now) result }
-    ensures cut { CutsWhatFails W.contents out.old out.new (failures_line host.now) result }
-    ensures fault { IsOkUnless result Output }
+    ensures { Prints W.contents out.old out.new (failures_line host.now) result }
 {
     write_pieces(
         out,
@@ -317,12 +308,9 @@ impl Printed for StatusLine {
 
 /// Writes the twelve lines of a summary.
 pub fn write_summary<W: Write>(out: &mut W, summary: &Summary) -> Result<(), Fault>
-    // With Ok exactly the twelve lines of the summary are written, and else a prefix of them.
-    ensures bytes { WritesTo W.contents out.old out.new (summary_lines summary.now) result }
-    // What is reported as failed was cut: a summary that went out whole never is.
-    ensures cut { CutsWhatFails W.contents out.old out.new (summary_lines summary.now) result }
-    // The only fault is `Output`.
-    ensures fault { IsOkUnless result Output }
+    // With Ok exactly the twelve lines of the summary are written. Else the fault is `Output`, and a
+    // part of them is missing.
+    ensures { Prints W.contents out.old out.new (summary_lines summary.now) result }
 {
     write_pieces(
         out,

@@ -7,7 +7,7 @@ ghost use Rattle.hex.specs.Hex.{encode_lower};
 ghost use Rattle.wu_core.specs.Limits.{last_deadline};
 ghost use Rattle.wu_core.specs.declared.fault.Fault.TheVariants.{Output};
 ghost use Rattle.wu_report.specs.Texts.{moment_text};
-ghost use Rattle.wu_report.specs.Writing.{CutsWhatFails, piece_text, WritesTo};
+ghost use Rattle.wu_report.specs.Writing.{piece_text, Prints};
 
 use hex::encode_to_slice;
 use itoa::Buffer;
@@ -18,21 +18,16 @@ use wu_core::{Deadline, Fault, Moment};
 
 /// What is printed: its text, and how it is written.
 pub trait Printed {
-    ghost use Rattle.std.specs.Prelude.{ℕ, List, IsOkUnless};
-    ghost use Rattle.wu_core.specs.declared.fault.Fault.TheVariants.{Output};
-    ghost use Rattle.wu_report.specs.Writing.{CutsWhatFails, WritesTo};
+    ghost use Rattle.std.specs.Prelude.{ℕ, List};
+    ghost use Rattle.wu_report.specs.Writing.{Prints};
 
     /// The text, with the ends of its lines.
     ghost text: { Self → List ℕ };
 
     /// Writes the text. The only fault is `Output`, where some bytes of it did not go out.
     fn write<W: Write>(&self, out: &mut W) -> Result<(), Fault>
-        // With Ok exactly the text is written, and else a prefix of it.
-        ensures bytes { WritesTo W.contents out.old out.new (text self.now) result }
-        // What is reported as failed was cut: a text that went out whole never is.
-        ensures cut { CutsWhatFails W.contents out.old out.new (text self.now) result }
-        // The only fault is `Output`.
-        ensures fault { IsOkUnless result Output };
+        // With Ok exactly the text is written. Else the fault is `Output`, and a part of it is missing.
+        ensures { Prints W.contents out.old out.new (text self.now) result };
 }
 
 /// A piece of a line.
@@ -55,9 +50,7 @@ pub enum Piece<'a> {
 ///
 /// `write_all` does not say what it wrote before it failed; this says that it was a prefix of the bytes.
 fn write_bytes<W: Write>(out: &mut W, bytes: &[u8]) -> Result<(), Fault>
-    ensures bytes { WritesTo W.contents out.old out.new bytes.now result }
-    ensures cut { CutsWhatFails W.contents out.old out.new bytes.now result }
-    ensures fault { IsOkUnless result Output }
+    ensures { Prints W.contents out.old out.new bytes.now result }
 {
     let mut rest = bytes;
     while !rest.is_empty() {
@@ -72,9 +65,7 @@ fn write_bytes<W: Write>(out: &mut W, bytes: &[u8]) -> Result<(), Fault>
 
 /// Writes the number in decimal, without leading zeros.
 fn write_number<W: Write>(out: &mut W, number: u64) -> Result<(), Fault>
-    ensures bytes { WritesTo W.contents out.old out.new (decimal number) result }
-    ensures cut { CutsWhatFails W.contents out.old out.new (decimal number) result }
-    ensures fault { IsOkUnless result Output }
+    ensures { Prints W.contents out.old out.new (decimal number) result }
 {
     let mut digits = Buffer::new();
     write_bytes(out, digits.format(number).as_bytes())
@@ -83,9 +74,7 @@ fn write_number<W: Write>(out: &mut W, number: u64) -> Result<(), Fault>
 /// Writes the date and the time so many seconds after the start of 1970, in UTC. It takes what a deadline may be.
 fn write_seconds<W: Write>(out: &mut W, seconds: u64) -> Result<(), Fault>
     requires { seconds ≤ last_deadline }
-    ensures bytes { WritesTo W.contents out.old out.new (moment_text seconds) result }
-    ensures cut { CutsWhatFails W.contents out.old out.new (moment_text seconds) result }
-    ensures fault { IsOkUnless result Output }
+    ensures { Prints W.contents out.old out.new (moment_text seconds) result }
 {
     let Ok(timestamp) = Timestamp::from_second(seconds as i64) else {
         unreachable!()
@@ -96,9 +85,7 @@ fn write_seconds<W: Write>(out: &mut W, seconds: u64) -> Result<(), Fault>
 
 /// Writes the two digits of a byte.
 fn write_hex_byte<W: Write>(out: &mut W, byte: u8) -> Result<(), Fault>
-    ensures bytes { WritesTo W.contents out.old out.new (encode_lower (byte ∷ [])) result }
-    ensures cut { CutsWhatFails W.contents out.old out.new (encode_lower (byte ∷ [])) result }
-    ensures fault { IsOkUnless result Output }
+    ensures { Prints W.contents out.old out.new (encode_lower (byte ∷ [])) result }
 {
     let mut digits = [0; 2];
     let Ok(()) = encode_to_slice([byte], &mut digits) else {
@@ -109,9 +96,7 @@ fn write_hex_byte<W: Write>(out: &mut W, byte: u8) -> Result<(), Fault>
 
 /// Writes the digits of each byte.
 fn write_hex<W: Write>(out: &mut W, bytes: &[u8]) -> Result<(), Fault>
-    ensures bytes { WritesTo W.contents out.old out.new (encode_lower bytes.now) result }
-    ensures cut { CutsWhatFails W.contents out.old out.new (encode_lower bytes.now) result }
-    ensures fault { IsOkUnless result Output }
+    ensures { Prints W.contents out.old out.new (encode_lower bytes.now) result }
 {
     for byte in bytes {
         write_hex_byte(out, *byte)?;
@@ -137,14 +122,9 @@ impl Printed for Piece<'_> {
 
 /// Writes the texts of these in turn, without taking memory.
 pub fn write_all<T: Printed, W: Write>(out: &mut W, all: &[T]) -> Result<(), Fault>
-    // With Ok exactly the texts are written, one after another, and else a prefix of them.
-    ensures bytes { WritesTo W.contents out.old out.new
-        (flat_map T.Printed.text all.now) result }
-    // What is reported as failed was cut: a text that went out whole never is.
-    ensures cut { CutsWhatFails W.contents out.old out.new
-        (flat_map T.Printed.text all.now) result }
-    // The only fault is `Output`.
-    ensures fault { IsOkUnless result Output }
+    // With Ok exactly the texts are written, one after another. Else the fault is `Output`, and a
+    // part of them is missing.
+    ensures { Prints W.contents out.old out.new (flat_map T.Printed.text all.now) result }
 {
     for one in all {
         one.write(out)?;
@@ -154,13 +134,9 @@ pub fn write_all<T: Printed, W: Write>(out: &mut W, all: &[T]) -> Result<(), Fau
 
 /// Writes the pieces in turn, without taking memory.
 pub fn write_pieces<W: Write>(out: &mut W, pieces: &[Piece<'_>]) -> Result<(), Fault>
-    // With Ok exactly the texts of the pieces are written, one after another, and else a prefix of
-    // them.
-    ensures bytes { WritesTo W.contents out.old out.new (flat_map piece_text pieces.now) result }
-    // What is reported as failed was cut: a text that went out whole never is.
-    ensures cut { CutsWhatFails W.contents out.old out.new (flat_map piece_text pieces.now) result }
-    // The only fault is `Output`.
-    ensures fault { IsOkUnless result Output }
+    // With Ok exactly the texts of the pieces are written, one after another. Else the fault is
+    // `Output`, and a part of them is missing.
+    ensures { Prints W.contents out.old out.new (flat_map piece_text pieces.now) result }
 {
     write_all(out, pieces)
 }

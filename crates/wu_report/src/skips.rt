@@ -1,9 +1,8 @@
 //! The rows of imported files that were skipped, and why.
 
-ghost use Rattle.std.specs.Prelude.{◌≡◌, flat_map, IsOkUnless, option_map};
-ghost use Rattle.wu_core.specs.declared.fault.Fault.TheVariants.{Output};
+ghost use Rattle.std.specs.Prelude.{◌≡◌, flat_map, option_map};
 ghost use Rattle.wu_report.specs.Texts.{import_detail, report_skip_word, send_skip_word, skip_line, skip_lines, skip_word};
-ghost use Rattle.wu_report.specs.Writing.{CutsWhatFails, WritesTo};
+ghost use Rattle.wu_report.specs.Writing.{Prints};
 
 use crate::output::{Piece, Printed, write_pieces};
 use std::io::Write;
@@ -38,11 +37,7 @@ fn skip_word(kind: ImportKind, verdict: u8) -> Option<&'static str>
 
 /// Writes the line of a row, if it was skipped.
 fn write_skip<W: Write>(out: &mut W, kind: ImportKind, row: u64, verdict: u8) -> Result<(), Fault>
-    ensures bytes { WritesTo W.contents out.old out.new
-        (skip_line (skip_word kind) (row, verdict)) result }
-    ensures cut { CutsWhatFails W.contents out.old out.new
-        (skip_line (skip_word kind) (row, verdict)) result }
-    ensures fault { IsOkUnless result Output }
+    ensures { Prints W.contents out.old out.new (skip_line (skip_word kind) (row, verdict)) result }
 {
     let Some(word) = skip_word(kind, verdict) else {
         return Ok(());
@@ -61,14 +56,9 @@ fn write_skip<W: Write>(out: &mut W, kind: ImportKind, row: u64, verdict: u8) ->
 
 /// Writes a line for each row of a file of this kind that was skipped. The first row after the header is row 2.
 pub fn write_skips<W: Write>(out: &mut W, kind: ImportKind, verdicts: &[u8]) -> Result<(), Fault>
-    // With Ok exactly the lines of the skipped rows are written, and else a prefix of them.
-    ensures bytes { WritesTo W.contents out.old out.new
-        (skip_lines (skip_word kind) verdicts.now) result }
-    // What is reported as failed was cut: lines that went out whole never are.
-    ensures cut { CutsWhatFails W.contents out.old out.new
-        (skip_lines (skip_word kind) verdicts.now) result }
-    // The only fault is `Output`.
-    ensures fault { IsOkUnless result Output }
+    // With Ok exactly the lines of the skipped rows are written. Else the fault is `Output`, and a
+    // part of them is missing.
+    ensures { Prints W.contents out.old out.new (skip_lines (skip_word kind) verdicts.now) result }
 {
     for (place, verdict) in verdicts.iter().enumerate() {
         write_skip(out, kind, place as u64 + 2, *verdict)?;
@@ -78,9 +68,7 @@ pub fn write_skips<W: Write>(out: &mut W, kind: ImportKind, verdicts: &[u8]) -> 
 
 /// Writes the line of an import, and a line for each of its rows that was skipped.
 fn write_detail<W: Write>(out: &mut W, line: &ImportLine) -> Result<(), Fault>
-    ensures bytes { WritesTo W.contents out.old out.new (import_detail line.now) result }
-    ensures cut { CutsWhatFails W.contents out.old out.new (import_detail line.now) result }
-    ensures fault { IsOkUnless result Output }
+    ensures { Prints W.contents out.old out.new (import_detail line.now) result }
 {
     line.write(out)?;
     write_skips(out, line.kind, line.verdicts.as_slice())
@@ -88,14 +76,9 @@ fn write_detail<W: Write>(out: &mut W, line: &ImportLine) -> Result<(), Fault>
 
 /// Writes the lines of these imports in turn, each with those of its skipped rows.
 pub fn write_details<W: Write>(out: &mut W, lines: &[ImportLine]) -> Result<(), Fault>
-    // With Ok exactly their lines are written, and else a prefix of them.
-    ensures bytes { WritesTo W.contents out.old out.new
-        (flat_map import_detail lines.now) result }
-    // What is reported as failed was cut: lines that went out whole never are.
-    ensures cut { CutsWhatFails W.contents out.old out.new
-        (flat_map import_detail lines.now) result }
-    // The only fault is `Output`.
-    ensures fault { IsOkUnless result Output }
+    // With Ok exactly their lines are written. Else the fault is `Output`, and a part of them is
+    // missing.
+    ensures { Prints W.contents out.old out.new (flat_map import_detail lines.now) result }
 {
     for line in lines {
         write_detail(out, line)?;

@@ -1,8 +1,5 @@
 use Rattle.wu_drive.proofs.LineLemmas.{cancel_pieces-are}
 use Rattle.wu_drive.proofs.replies.write_cancelled.Goals as goal
 
-pub returns-clause-bytes : goal.returns-clause-bytes
-returns-clause-bytes g c = rw (cancel_pieces-are c.args.workunit.now _ c.as_str.ensures) c.write_pieces.ensures.bytes
-
-pub returns-clause-cut : goal.returns-clause-cut
-returns-clause-cut g c = rw (cancel_pieces-are c.args.workunit.now _ c.as_str.ensures) c.write_pieces.ensures.cut
+pub returns : goal.returns
+returns g c = rw (cancel_pieces-are c.args.workunit.now _ c.as_str.ensures) c.write_pieces.ensures

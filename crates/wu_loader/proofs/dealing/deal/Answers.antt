@@ -8,7 +8,7 @@ pub loop-workunit-preserved : goal.loop-workunit-preserved
 loop-workunit-preserved c =
     let told = c.in_ok-instances.ensures in
     let low : c.loop-workunit.workunit-index < length c.loop-workunit.workunit-items = search rules in
-    rw c.from_vec.ensures (deals_next _ _ _ _ _ c.loop-workunit.invariant _ _ c.workunit-item.result low told.taken told.few told.all)
+    rw c.give_back.ensures (rw c.from_vec.ensures (deals_next _ _ _ _ _ c.loop-workunit.invariant _ _ c.workunit-item.result low told.taken told.few told.all))
 
 pub returns-clause-none : goal.returns-clause-none
 returns-clause-none c =

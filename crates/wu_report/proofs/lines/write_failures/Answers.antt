@@ -1,8 +1,5 @@
 use Rattle.wu_report.proofs.LineLemmas.{failures_pieces-are}
 use Rattle.wu_report.proofs.lines.write_failures.Goals as goal
 
-pub returns-clause-bytes : goal.returns-clause-bytes
-returns-clause-bytes g c = rw (failures_pieces-are c.args.host.now _ c.as_str.ensures) c.write_pieces.ensures.bytes
-
-pub returns-clause-cut : goal.returns-clause-cut
-returns-clause-cut g c = rw (failures_pieces-are c.args.host.now _ c.as_str.ensures) c.write_pieces.ensures.cut
+pub returns : goal.returns
+returns g c = rw (failures_pieces-are c.args.host.now _ c.as_str.ensures) c.write_pieces.ensures

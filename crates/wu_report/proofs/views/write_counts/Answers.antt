@@ -7,7 +7,7 @@ use Rattle.wu_report.proofs.views.write_counts.Goals as goal
 pub returns-clause-written : goal.returns-clause-written
 returns-clause-written g c =
     looked_written g.W.Write.contents c.args.project.now c.summary.new.self (λ db world knows stands. (knows, stands.refines)) _ c.in_ok-summary.summary c.in_ok-summary.ensures.looks c.args.out.now c.write_summary.new.out _ c.write_summary.result
-    (λ world is. ap summary_lines is) c.write_summary.ensures.bytes c.write_summary.ensures.cut c.write_summary.ensures.fault
+    (λ world is. ap summary_lines is) c.write_summary.ensures
 
 pub returns-in_err-summary-clause-written : goal.returns-in_err-summary-clause-written
 returns-in_err-summary-clause-written g c =

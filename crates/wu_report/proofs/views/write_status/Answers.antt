@@ -6,7 +6,7 @@ use Rattle.wu_report.proofs.views.write_status.Goals as goal
 pub returns : goal.returns
 returns g c =
     looked_written g.W.Write.contents c.args.project.now c.status_lines.new.self (λ db world knows stands. (knows, stands)) _ c.in_ok-lines.lines c.in_ok-lines.ensures c.args.out.now c.write_all.new.out _ c.write_all.result
-    (λ world is. ap (flat_map status_line) (c.as_slice.ensures.value ∙ is)) c.write_all.ensures.bytes c.write_all.ensures.cut c.write_all.ensures.fault
+    (λ world is. ap (flat_map status_line) (c.as_slice.ensures.value ∙ is)) c.write_all.ensures
 
 pub returns-in_err-lines : goal.returns-in_err-lines
 returns-in_err-lines g c =
