@@ -1,5 +1,5 @@
 -- Why words are no valid line.
-use Rattle.std.specs.Prelude.{◌≡◌, ◌≢◌, ◌⊎◌, ◌<◌, ◌^◌, ℕ, true, List, [], ◌∷◌, Option, Some, None, Result, IfErr, ⊤}
+use Rattle.std.specs.Prelude.{◌≡◌, ◌≢◌, ◌⊎◌, ◌<◌, ◌^◌, ℕ, true, List, [], ◌∷◌, Option, Some, None, Result, IfErr, IfOk, ⊤}
 use Rattle.std.specs.Str.Parse.{IsNumeral, digits_value, without_leading_plus}
 use Rattle.clap.specs.Words.{App, Row, fault_of, kind_of, one_of, subcommand_of}
 use Rattle.clap.specs.declared.error.Error.{Error}
@@ -92,6 +92,13 @@ WantsOnly result Fact = IfErr result (λ usage. usage ≡ Memory → Fact)
 -- An option that the subcommand has to have lacks a value, or the call is out of memory.
 abbrev pub IsLacking : List Row → Subcommand → Usage → Type 0
 IsLacking found subcommand = IsWithout (LacksOne found (options_of subcommand))
+
+-- What reads the values of a subcommand, or that a value is lacking.
+pub record ReadsValues {T : Type 0} (result : Result T Usage) (found : List Row) (subcommand : Subcommand) (Holds : List Row → Subcommand → T → Type 0) : Type 0 where
+  -- After `Ok` these are the values that clap finds of its options.
+  pub value : IfOk result (Holds found subcommand)
+  -- A refusal says which value is lacking, which is so, or it is out of memory.
+  pub refused : IfErr result (IsLacking found subcommand)
 
 -- The words ask to show something that is no view, or lack the name of a view.
 abbrev pub IsUnseen : List Row → Usage → Type 0

@@ -1,6 +1,7 @@
 //! The files that a line names, and what reads them.
 
 ghost use Rattle.std.specs.Prelude.{◌≡◌, IfErr, IfOk, true};
+ghost use Rattle.wu_core.specs.Reads.{OkOrWantsMemory};
 ghost use Rattle.wu_core.specs.declared.fault.Fault.TheVariants.{Memory};
 ghost use Rattle.wu_arguments.specs.Actions.{bytes_of, content_bytes};
 ghost use Rattle.wu_arguments.specs.Contents.{AreContentsOf, IsTemplateOf, names_files};
@@ -13,8 +14,8 @@ use wu_feed::{LONGEST_FILE, LONGEST_TEMPLATE};
 
 /// What reads the files that words name.
 pub trait ReadFile {
-    ghost use Rattle.std.specs.Prelude.{◌≡◌, ℕ, IfErr, IfOk, List, Option};
-    ghost use Rattle.wu_core.specs.declared.fault.Fault.TheVariants.{Memory};
+    ghost use Rattle.std.specs.Prelude.{ℕ, List, Option};
+    ghost use Rattle.wu_core.specs.Reads.{OkOrWantsMemory};
     ghost use Rattle.wu_arguments.specs.Actions.{content_bytes};
 
     /// This may be what a reading of the path gives, of so many bytes at most and one more.
@@ -24,11 +25,9 @@ pub trait ReadFile {
     /// noticed. Returns `None` if it cannot be read. The only fault is `Memory`.
     fn read(&self, path: &str, most: usize) -> Result<Option<Vec<u8>>, Fault>
         // What is read is what the file at this path may give, of at most so many bytes and one
-        // more.
-        ensures bytes { IfOk result (λ bytes.
-            gives self.now path.now most (content_bytes bytes)) }
-        // The only fault is `Memory`.
-        ensures fault { IfErr result (λ fault. fault ≡ Memory) };
+        // more. The only fault is `Memory`.
+        ensures { OkOrWantsMemory result
+            (λ bytes. gives self.now path.now most (content_bytes bytes)) };
 }
 
 /// Returns what a template holds. One that is left out has no bytes.
@@ -37,9 +36,8 @@ fn template_content<F: ReadFile>(
     files: &F,
     template: &Option<Word>,
 ) -> Result<Option<Vec<u8>>, Fault>
-    ensures content { IfOk result (λ content.
-        IsTemplateOf (F.ReadFile.gives files.now) template.now (content_bytes content)) }
-    ensures fault { IfErr result (λ fault. fault ≡ Memory) }
+    ensures { OkOrWantsMemory result (λ content. IsTemplateOf (F.ReadFile.gives files.now)
+        template.now (content_bytes content)) }
 {
     match template {
         Some(path) => files.read(path.as_str(), LONGEST_TEMPLATE),

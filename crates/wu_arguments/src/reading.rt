@@ -1,7 +1,8 @@
 //! What is read of the files that words name.
 
-ghost use Rattle.std.specs.Prelude.{◌≡◌, IfErr, IfOk, IfSome, take};
+ghost use Rattle.std.specs.Prelude.{◌≡◌, IfSome, take};
 ghost use Rattle.std.specs.IoError.{error_kind};
+ghost use Rattle.wu_core.specs.Reads.{OkOrWantsMemory};
 ghost use Rattle.wu_core.specs.declared.fault.Fault.TheVariants.{Memory};
 ghost use Rattle.wu_arguments.specs.Reading.{IsTextOf, KeepsRead, ReadsNothing, read_at_most};
 
@@ -43,11 +44,10 @@ pub fn read_up_to<R: Read + Drop>(
     reader: R,
     most: usize,
 ) -> Result<Option<Vec<u8>>, Fault>
-    // What is read is the first bytes of the reader, at most the limit and one more.
-    ensures bytes { IfOk result (λ read. IfSome read (λ bytes. IfSome (R.remaining reader)
+    // What is read is the first bytes of the reader, at most the limit and one more. The only fault
+    // is `Memory`.
+    ensures { OkOrWantsMemory result (λ read. IfSome read (λ bytes. IfSome (R.remaining reader)
         (λ all. bytes.items ≡ take (read_at_most most) all))) }
-    // The only fault is `Memory`.
-    ensures fault { IfErr result (λ fault. fault ≡ Memory) }
 {
     let mut bytes = Vec::with_capacity(alloc, FIRST_ROOM)?;
     let most = (most as u64).saturating_add(1);

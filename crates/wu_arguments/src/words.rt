@@ -4,7 +4,7 @@ ghost use Rattle.std.specs.Prelude.{◌≡◌, map, string_bytes, IfErr, IfOk, N
 ghost use Rattle.clap.specs.Words.{found_of, rows_of, subcommand_rows_of};
 ghost use Rattle.wu_arguments.specs.CommandLine.{file_option, takes_age, takes_moment};
 ghost use Rattle.wu_arguments.specs.Lines.{HoldsValues, IsLineIn, IsNumberIf, IsOrder, IsTemplate, IsTextIf};
-ghost use Rattle.wu_arguments.specs.Refusals.{Explains, HasText, IsLacking, IsOrderOf, IsSeen, RefusesValues, IsWithout, LacksText, OfTaken, WantsOnly};
+ghost use Rattle.wu_arguments.specs.Refusals.{Explains, HasText, IsLacking, IsOrderOf, IsSeen, RefusesValues, IsWithout, LacksText, OfTaken, ReadsValues, WantsOnly};
 
 use crate::line::{Asking, Line};
 use crate::option::LineOption;
@@ -44,10 +44,8 @@ fn template(alloc: Global, kind: ImportKind, found: &ArgMatches<'_>) -> Result<O
 
 /// Reads the values of an import.
 fn read_import(alloc: Global, kind: ImportKind, found: &ArgMatches<'_>) -> Result<Asking, Usage>
-    ensures asking { IfOk result
-        (HoldsValues (rows_of (found_of found.now)) (Subcommand.Import kind)) }
-    ensures refused { IfErr result
-        (IsLacking (rows_of (found_of found.now)) (Subcommand.Import kind)) }
+    ensures { ReadsValues result (rows_of (found_of found.now)) (Subcommand.Import kind)
+        HoldsValues }
 {
     Ok(Asking::Import {
         kind,
@@ -96,10 +94,7 @@ fn min_age(pass: Pass, found: &ArgMatches<'_>) -> Result<Option<u64>, Usage>
 
 /// Reads the values of a pass.
 fn read_pass(alloc: Global, pass: Pass, found: &ArgMatches<'_>) -> Result<Asking, Usage>
-    ensures asking { IfOk result
-        (HoldsValues (rows_of (found_of found.now)) (Subcommand.Pass pass)) }
-    ensures refused { IfErr result
-        (IsLacking (rows_of (found_of found.now)) (Subcommand.Pass pass)) }
+    ensures { ReadsValues result (rows_of (found_of found.now)) (Subcommand.Pass pass) HoldsValues }
 {
     Ok(Asking::Pass {
         pass,
@@ -111,8 +106,7 @@ fn read_pass(alloc: Global, pass: Pass, found: &ArgMatches<'_>) -> Result<Asking
 
 /// Reads the values of a cycle.
 fn read_cycle(alloc: Global, found: &ArgMatches<'_>) -> Result<Asking, Usage>
-    ensures asking { IfOk result (HoldsValues (rows_of (found_of found.now)) Subcommand.Cycle) }
-    ensures refused { IfErr result (IsLacking (rows_of (found_of found.now)) Subcommand.Cycle) }
+    ensures { ReadsValues result (rows_of (found_of found.now)) Subcommand.Cycle HoldsValues }
 {
     Ok(Asking::Cycle {
         limit: number(found, LineOption::Limit)?,
@@ -123,8 +117,7 @@ fn read_cycle(alloc: Global, found: &ArgMatches<'_>) -> Result<Asking, Usage>
 
 /// Reads the values of a cancel.
 fn read_cancel(alloc: Global, found: &ArgMatches<'_>) -> Result<Asking, Usage>
-    ensures asking { IfOk result (HoldsValues (rows_of (found_of found.now)) Subcommand.Cancel) }
-    ensures refused { IfErr result (IsLacking (rows_of (found_of found.now)) Subcommand.Cancel) }
+    ensures { ReadsValues result (rows_of (found_of found.now)) Subcommand.Cancel HoldsValues }
 {
     Ok(Asking::Cancel {
         workunit: text(alloc, found, LineOption::Workunit)?,
@@ -133,8 +126,7 @@ fn read_cancel(alloc: Global, found: &ArgMatches<'_>) -> Result<Asking, Usage>
 
 /// Reads the name of the imports that are shown, where one is given.
 fn read_imports(alloc: Global, found: &ArgMatches<'_>) -> Result<Asking, Usage>
-    ensures asking { IfOk result (HoldsValues (rows_of (found_of found.now)) Subcommand.Imports) }
-    ensures refused { IfErr result (IsLacking (rows_of (found_of found.now)) Subcommand.Imports) }
+    ensures { ReadsValues result (rows_of (found_of found.now)) Subcommand.Imports HoldsValues }
 {
     Ok(Asking::Imports {
         name: text_if_any(alloc, found, LineOption::Imported)?,
@@ -143,8 +135,7 @@ fn read_imports(alloc: Global, found: &ArgMatches<'_>) -> Result<Asking, Usage>
 
 /// Reads the moment of what waits.
 fn read_status(alloc: Global, found: &ArgMatches<'_>) -> Result<Asking, Usage>
-    ensures asking { IfOk result (HoldsValues (rows_of (found_of found.now)) Subcommand.Status) }
-    ensures refused { IfErr result (IsLacking (rows_of (found_of found.now)) Subcommand.Status) }
+    ensures { ReadsValues result (rows_of (found_of found.now)) Subcommand.Status HoldsValues }
 {
     Ok(Asking::Status {
         now: text(alloc, found, LineOption::Now)?,
@@ -167,8 +158,7 @@ fn line(alloc: Global, asking: Asking, found: &ArgMatches<'_>) -> Result<Order, 
 
 /// Reads a script's file, and the database that it is for.
 fn script(alloc: Global, found: &ArgMatches<'_>) -> Result<Order, Usage>
-    ensures order { IfOk result (IsOrder (rows_of (found_of found.now)) Subcommand.Script) }
-    ensures refused { IfErr result (IsLacking (rows_of (found_of found.now)) Subcommand.Script) }
+    ensures { ReadsValues result (rows_of (found_of found.now)) Subcommand.Script IsOrder }
 {
     Ok(Order::Script(ScriptFile {
         db: text(alloc, found, LineOption::Database)?,
@@ -178,8 +168,7 @@ fn script(alloc: Global, found: &ArgMatches<'_>) -> Result<Order, Usage>
 
 /// Reads the database that is backed up, and the file that is made.
 fn read_backup(alloc: Global, found: &ArgMatches<'_>) -> Result<Order, Usage>
-    ensures order { IfOk result (IsOrder (rows_of (found_of found.now)) Subcommand.Backup) }
-    ensures refused { IfErr result (IsLacking (rows_of (found_of found.now)) Subcommand.Backup) }
+    ensures { ReadsValues result (rows_of (found_of found.now)) Subcommand.Backup IsOrder }
 {
     Ok(Order::Export(ExportOrder {
         db: text(alloc, found, LineOption::Checked)?,
@@ -189,8 +178,7 @@ fn read_backup(alloc: Global, found: &ArgMatches<'_>) -> Result<Order, Usage>
 
 /// Reads the database whose outputs are kept, the folder of the files, and which output alone is.
 fn read_outputs(alloc: Global, found: &ArgMatches<'_>) -> Result<Order, Usage>
-    ensures order { IfOk result (IsOrder (rows_of (found_of found.now)) Subcommand.Outputs) }
-    ensures refused { IfErr result (IsLacking (rows_of (found_of found.now)) Subcommand.Outputs) }
+    ensures { ReadsValues result (rows_of (found_of found.now)) Subcommand.Outputs IsOrder }
 {
     Ok(Order::Export(ExportOrder {
         db: text(alloc, found, LineOption::Checked)?,
@@ -203,8 +191,7 @@ fn read_outputs(alloc: Global, found: &ArgMatches<'_>) -> Result<Order, Usage>
 
 /// Reads the file that is only read, and what it is for.
 fn read_lint(alloc: Global, found: &ArgMatches<'_>) -> Result<Order, Usage>
-    ensures order { IfOk result (IsOrder (rows_of (found_of found.now)) Subcommand.Lint) }
-    ensures refused { IfErr result (IsLacking (rows_of (found_of found.now)) Subcommand.Lint) }
+    ensures { ReadsValues result (rows_of (found_of found.now)) Subcommand.Lint IsOrder }
 {
     Ok(Order::Lint(LintOrder {
         kind: text(alloc, found, LineOption::Kind)?,

@@ -62,7 +62,7 @@ pub fn first_repeat<K: Eq + Hash + Copy + Drop>(
     // are equal.
     ensures { IfOk result (FirstPairAgainst (λ one other. K.eq one other ≡ false) keys.now) }
 {
-    let mut seen = HashSet::new(alloc);
+    let mut seen = HashSet::with_capacity(alloc, keys.len())?;
     for (place, key) in keys.iter().enumerate() {
         if !seen.insert(*key)? {
             return Ok(Some(place));

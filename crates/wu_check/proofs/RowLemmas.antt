@@ -1,49 +1,28 @@
 -- Rows that are compared one by one.
-use Rattle.wu_schema.proofs.Words.{List, None, Option, Row, Some, [], ap, arith, length, map, refl, slice_get, suc, sym, take, zero, ℕ, ◌-◌, ◌<◌, ◌∙◌, ◌∷◌, ◌≡◌, ◌≢◌, ◌≤◌}
-use Rattle.std.specs.Prelude.{get_or}
+use Rattle.wu_schema.proofs.Words.{List, None, Option, Row, Some, [], ap, arith, length, map, refl, slice_get, subst, suc, sym, take, zero, ℕ, ◌+◌, ◌-◌, ◌++◌, ◌∙◌, ◌∷◌, ◌≡◌, ◌≢◌}
+use Rattle.std.proofs.Math.Seq.{take-append_seam}
 use Rattle.std.specs.Option.{option_map}
 use Rattle.std.proofs.lemmas.List.{take-map}
 use Rattle.wu_loader.specs.Whole.{DiffersAt}
 
--- lists that have the same at each place are one
-pub same_list : {X : Type 0} (xs ys : List X) → length ys ≤ length xs → ((k : ℕ) → k < length xs → slice_get xs k ≡ slice_get ys k) → xs ≡ ys
-same_list [] [] long same = refl
-same_list [] (y ∷ ys) long same = absurd (omega (arith, long))
-same_list (x ∷ xs) [] long same = absurd (let no = same 0 (omega arith) in cc)
-same_list (x ∷ xs) (y ∷ ys) long same =
-    let first : x ≡ y = (let e = same 0 (omega arith) in cc) in
-    let rest = same_list xs ys (omega (arith, long)) (λ k low. same (suc k) (omega (arith, low))) in
-    λ i. first i ∷ rest i
+get_behind : {X : Type 0} (front xs : List X) → slice_get (front ++ xs) (length front) ≡ slice_get xs 0
+get_behind [] xs = refl
+get_behind (y ∷ ys) xs = get_behind ys xs
 
--- lists that have the same at each place below this one begin with the same
-pub same_start : {X : Type 0} (n : ℕ) (xs ys : List X) → ((k : ℕ) → k < n → slice_get xs k ≡ slice_get ys k) → take n xs ≡ take n ys
-same_start zero xs ys same = refl
-same_start (suc n) [] [] same = refl
-same_start (suc n) [] (y ∷ ys) same = absurd (let no = same 0 (omega arith) in cc)
-same_start (suc n) (x ∷ xs) [] same = absurd (let no = same 0 (omega arith) in cc)
-same_start (suc n) (x ∷ xs) (y ∷ ys) same =
-    let first : x ≡ y = (let e = same 0 (omega arith) in cc) in
-    let rest = same_start n xs ys (λ k low. same (suc k) (omega (arith, low))) in
-    λ i. first i ∷ rest i
+-- after the same front the first ones differ
+pub differs_behind : {X : Type 0} (front wanted found : List X) (place : ℕ) → length front ≡ place → slice_get found 0 ≢ slice_get wanted 0 → DiffersAt (front ++ wanted) (front ++ found) (place + 1)
+differs_behind front wanted found place long differ =
+    let e : length front ≡ place + 1 - 1 = omega (arith, long) in
+    record {
+      counted = omega arith;
+      before = subst (λ n. take n (front ++ found) ≡ take n (front ++ wanted)) e (take-append_seam front found ∙ sym (take-append_seam front wanted));
+      other = subst (λ n. slice_get (front ++ found) n ≢ slice_get (front ++ wanted) n) e (λ is. differ (sym (get_behind front found) ∙ is ∙ get_behind front wanted));
+    }
 
 pub get_mapped : {X Y : Type 0} (f : X → Y) (xs : List X) (k : ℕ) → slice_get (map f xs) k ≡ option_map f (slice_get xs k)
 get_mapped f [] k = refl
 get_mapped f (x ∷ xs) zero = refl
 get_mapped f (x ∷ xs) (suc k) = get_mapped f xs k
-
-pub get_there : {X : Type 0} (xs : List X) (k : ℕ) (x : X) → k < length xs → get_or xs k x ≡ x → slice_get xs k ≡ Some x
-get_there [] k x low at = absurd (omega (arith, low))
-get_there (y ∷ xs) zero x low at = ap Some at
-get_there (y ∷ xs) (suc k) x low at = get_there xs k x (omega (arith, low)) at
-
-pub get_end : {X : Type 0} (xs : List X) → slice_get xs (length xs) ≡ None
-get_end [] = refl
-get_end (x ∷ xs) = get_end xs
-
-pub get_within : {X : Type 0} (xs : List X) (k : ℕ) → k < length xs → slice_get xs k ≢ None
-get_within [] k low is = absurd (omega (arith, low))
-get_within (x ∷ xs) zero low is = absurd cc
-get_within (x ∷ xs) (suc k) low is = get_within xs k (omega (arith, low)) is
 
 -- what is shown of rows differs only where they do, and where that tells all of them they begin alike
 pub shown_differs : {X : Type 0} (shows behind : Row → Row) (stored cells : X → Row) → ((x : X) → shows (stored x) ≡ cells x) → ((x : X) → behind (cells x) ≡ stored x) → (xs : List X) (rows : List Row) → rows ≡ map behind (map shows rows)

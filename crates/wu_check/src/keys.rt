@@ -1,9 +1,9 @@
 //! The key of the row that a world's audit reports.
 
-ghost use Rattle.std.specs.Prelude.{◌≡◌, ◌+◌, ◌<◌, length, Some, IfErr, IfOk};
+ghost use Rattle.std.specs.Prelude.{◌≡◌, ◌+◌, ◌<◌, length, Some};
+ghost use Rattle.wu_core.specs.Reads.{OkOrWantsMemory};
 ghost use Rattle.wu_audit.specs.Wrong.{StandsAgainst};
 ghost use Rattle.wu_check.specs.Findings.{IsKeyAt, IsKeyOf};
-ghost use Rattle.wu_core.specs.declared.fault.Fault.TheVariants.{Memory};
 
 use crate::finding::Key;
 use wu_audit::{AuditTable, Loaded, Wrong};
@@ -20,10 +20,8 @@ fn place_from_one(place: usize, rows: usize) -> u64
 /// Returns the key of the import at this place.
 fn import_key(loaded: &Loaded, place: usize) -> Result<Key, Fault>
     requires { place < length loaded.now.imports }
-    // It is the kind and the name of the import at this place.
-    ensures key { IfOk result (IsKeyAt loaded.now AuditTable.Import (Some place)) }
-    // The only fault is out of memory.
-    ensures memory { IfErr result (λ fault. fault ≡ Memory) }
+    // It is the kind and the name of the import at this place. The only fault is `Memory`.
+    ensures { OkOrWantsMemory result (IsKeyAt loaded.now AuditTable.Import (Some place)) }
 {
     let import = &loaded.imports()[place];
     Ok(Key::Import(import.kind(), import.name().copy()?))
@@ -32,10 +30,8 @@ fn import_key(loaded: &Loaded, place: usize) -> Result<Key, Fault>
 /// Returns the key of the host at this place among those that have a class.
 fn class_key(loaded: &Loaded, place: usize) -> Result<Key, Fault>
     requires { place < length loaded.now.classes }
-    // It is the name of the host at this place.
-    ensures key { IfOk result (IsKeyAt loaded.now AuditTable.HostClass (Some place)) }
-    // The only fault is out of memory.
-    ensures memory { IfErr result (λ fault. fault ≡ Memory) }
+    // It is the name of the host at this place. The only fault is `Memory`.
+    ensures { OkOrWantsMemory result (IsKeyAt loaded.now AuditTable.HostClass (Some place)) }
 {
     let one = &loaded.classes()[place];
     Ok(Key::HostClass(one.host.copy()?))
@@ -45,10 +41,9 @@ fn class_key(loaded: &Loaded, place: usize) -> Result<Key, Fault>
 pub fn key_of_wrong(loaded: &Loaded, wrong: Wrong) -> Result<Key, Fault>
     // The violation is the first of this world in the written order.
     requires { StandsAgainst loaded.now wrong }
-    // The key is that of the reported row; grants and archived rows are counted from 1.
-    ensures key { IfOk result (IsKeyOf loaded.now wrong) }
-    // The only fault is out of memory.
-    ensures memory { IfErr result (λ fault. fault ≡ Memory) }
+    // The key is that of the reported row; grants and archived rows are counted from 1. The only
+    // fault is `Memory`.
+    ensures { OkOrWantsMemory result (IsKeyOf loaded.now wrong) }
 {
     let Some(place) = wrong.place() else {
         return Ok(Key::Project);

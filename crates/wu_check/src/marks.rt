@@ -1,9 +1,8 @@
 //! Whether the queue has the marks of each workunit.
 
-ghost use Rattle.std.specs.Prelude.{◌≡◌, ◌↔◌, ◌<◌, IsTrue, length, map};
+ghost use Rattle.std.specs.Prelude.{◌≡◌, ◌↔◌, ◌<◌, IsTrue, length};
 ghost use Rattle.sqlite.specs.Order.{column};
-ghost use Rattle.wu_check.specs.Queues.{ComparesTo, HasMarks, LooksInQueue, marked_row};
-ghost use Rattle.wu_loader.specs.Shown.{keyed};
+ghost use Rattle.wu_check.specs.Queues.{HasMarks, LooksInQueue, marked_row};
 ghost use Rattle.wu_schema.specs.Stored.{flag, number, number_or_null};
 
 use sqlite::types::ValueRef;
@@ -11,7 +10,7 @@ use sqlite::{Alter, Connection, Row};
 use wu_audit::Loaded;
 use wu_core::{Fault, Moment, Workunit};
 use wu_rules::marks_of;
-use wu_schema::query;
+use wu_schema::fault_of;
 
 /// Returns whether the column is this number.
 fn is_number(row: &Row, at: usize, wanted: u64) -> bool
@@ -72,42 +71,12 @@ fn has_marks(row: &Row, workunit: &Workunit) -> bool
         && is_moment_or_null(row, 5, marks.purge_from)
 }
 
-/// Returns the first place, from 1, at which the rows are not those of the workunits' marks, or `None` if there is
-/// none.
-fn first_other(rows: &[Row], workunits: &[Workunit]) -> Option<u64>
-    // A place is the first at which the rows differ from those of the workunits' marks; `None`
-    // means that they do not.
-    ensures { ComparesTo (map marked_row workunits.now) rows.now result }
-{
-    'each: for (place, row) in rows.iter().enumerate() {
-        match workunits.get(place) {
-            Some(workunit) if has_marks(row, workunit) => {}
-            _ => return Some(place as u64 + 1),
-        }
-    }
-    if rows.len() < workunits.len() {
-        Some(rows.len() as u64 + 1)
-    } else {
-        None
-    }
-}
-
 /// Asks for the marks of all workunits, in order of their numbers.
 pub const SELECT_MARKS: &str =
     "SELECT workunit, wake, to_validate, to_assimilate, to_delete, purge_from FROM queue ORDER BY workunit";
 
-/// Returns the rows of the queue, in order of their workunits' numbers.
-fn queue_rows<S: Alter>(conn: &mut Connection<S>) -> Result<Vec<Row>, Fault>
-    // Only reads; over a queue whose rows are whole and in rowid order, these are its rows, without
-    // the empty cell of the key.
-    ensures { LooksInQueue S.Store conn.old conn.new result (λ rows shown. shown.items ≡ map
-        (keyed 6) rows) }
-{
-    query(conn, SELECT_MARKS, &[])
-}
-
 /// Returns the first place, from 1, at which the rows of the queue are not the marks of each workunit, or `None` if
-/// there is none.
+/// there is none. It holds one row at a time.
 pub fn wrong_marks<S: Alter>(
     conn: &mut Connection<S>,
     loaded: &Loaded,
@@ -117,6 +86,27 @@ pub fn wrong_marks<S: Alter>(
     // steps, its only faults are `Memory` and `Broken`.
     ensures { LooksInQueue S.Store conn.old conn.new result (HasMarks loaded.now) }
 {
-    let rows = queue_rows(conn)?;
-    Ok(first_other(&rows, loaded.workunits()))
+    let workunits = loaded.workunits();
+    let mut rows = match conn.query(SELECT_MARKS, &[]) {
+        Ok(rows) => rows,
+        Err(error) => return Err(fault_of(&error)),
+    };
+    'rows: for (place, workunit) in workunits.iter().enumerate() {
+        if let Err(error) = rows.advance() {
+            return Err(fault_of(&error));
+        }
+        let Some(row) = rows.get() else {
+            return Ok(Some(place as u64 + 1));
+        };
+        if !has_marks(row, workunit) {
+            return Ok(Some(place as u64 + 1));
+        }
+    }
+    if let Err(error) = rows.advance() {
+        return Err(fault_of(&error));
+    }
+    match rows.get() {
+        Some(_) => Ok(Some(workunits.len() as u64 + 1)),
+        None => Ok(None),
+    }
 }

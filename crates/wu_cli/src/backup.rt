@@ -1,9 +1,8 @@
 //! What a backup asks of its copy, and what it reports; why a file is not made.
 
-ghost use Rattle.std.specs.Prelude.{◌≡◌, IsOkUnless};
+ghost use Rattle.std.specs.Prelude.{◌≡◌};
 ghost use Rattle.std.specs.IoError.{error_kind};
-ghost use Rattle.wu_core.specs.declared.fault.Fault.TheVariants.{Output};
-ghost use Rattle.wu_report.specs.Writing.{WritesTo};
+ghost use Rattle.wu_report.specs.Writing.{PrintsAndFlushes, WritesTo};
 ghost use Rattle.wu_cli.specs.Backups.{backup_line, CountsSound, unmade_line, unmade_of, unmade_status, unmade_words};
 
 use crate::texts::{line_of_fault, worded, write_flushed};
@@ -110,10 +109,8 @@ pub(crate) fn line_of_unmade<W: Write>(out: &mut W, why: Unmade) -> Result<(), F
 /// Writes that a backup was made, with what its project has, and flushes.
 pub(crate) fn write_backed_up<W: Write>(out: &mut W, to: &str, counts: Counts) -> Result<(), Fault>
     // With Ok exactly the line with the path and the three numbers is written, and else a prefix of
-    // it.
-    ensures bytes { WritesTo W.contents out.old out.new (backup_line to.now counts) result }
-    // The only fault is `Output`.
-    ensures fault { IsOkUnless result Output }
+    // it. The only fault is `Output`.
+    ensures { PrintsAndFlushes W.contents out.old out.new (backup_line to.now counts) result }
 {
     write_flushed(
         out,

@@ -1,8 +1,6 @@
 //! What is made of a copy of a project: a backup, or the outputs of its archive.
 
-ghost use Rattle.std.specs.Prelude.{◌≡◌, IsOkUnless};
-ghost use Rattle.wu_core.specs.declared.fault.Fault.TheVariants.{Output};
-ghost use Rattle.wu_report.specs.Writing.{WritesTo};
+ghost use Rattle.wu_report.specs.Writing.{PrintsAndFlushes};
 ghost use Rattle.wu_cli.specs.Exports.{exported_line, Exports, ExportsEach, TellsMade};
 ghost use Rattle.wu_cli.specs.Outputs.{outputs_line};
 
@@ -43,8 +41,7 @@ pub trait MakeExport {
 
 /// Writes how many outputs have their files, and flushes.
 fn write_kept<W: Write>(out: &mut W, folder: &str, counts: KeptCounts) -> Result<(), Fault>
-    ensures bytes { WritesTo W.contents out.old out.new (outputs_line folder.now counts) result }
-    ensures fault { IsOkUnless result Output }
+    ensures { PrintsAndFlushes W.contents out.old out.new (outputs_line folder.now counts) result }
 {
     write_flushed(
         out,
@@ -63,9 +60,8 @@ fn write_kept<W: Write>(out: &mut W, folder: &str, counts: KeptCounts) -> Result
 /// Writes what was made of a copy of a project, and at which path, and flushes.
 pub fn write_exported<W: Write>(out: &mut W, place: &str, exported: Exported) -> Result<(), Fault>
     // With Ok exactly the line with the path and the numbers is written, and else a prefix of it.
-    ensures bytes { WritesTo W.contents out.old out.new (exported_line place.now exported) result }
-    // The only fault is `Output`.
-    ensures fault { IsOkUnless result Output }
+    ensures { PrintsAndFlushes W.contents out.old out.new
+        (exported_line place.now exported) result }
 {
     match exported {
         Exported::Backup(counts) => write_backed_up(out, place, counts),

@@ -1,10 +1,9 @@
 //! The lines that a check writes.
 
-ghost use Rattle.std.specs.Prelude.{◌≡◌, ◌++◌, codes, IsOkUnless};
+ghost use Rattle.std.specs.Prelude.{◌≡◌, ◌++◌, codes};
 ghost use Rattle.std.specs.Fmt.{decimal};
-ghost use Rattle.wu_core.specs.declared.fault.Fault.TheVariants.{Output};
 ghost use Rattle.wu_report.specs.Texts.{line_end};
-ghost use Rattle.wu_report.specs.Writing.{WritesTo};
+ghost use Rattle.wu_report.specs.Writing.{PrintsAndFlushes, WritesTo};
 ghost use Rattle.wu_cli.specs.Checks.{barred_line, finding_line, key_text, misfit_line, missing_text, row_line, sound_line, sums_line, taken_line};
 
 use crate::texts::{placed, write_flushed, write_line};
@@ -200,9 +199,7 @@ pub(crate) fn line_of_finding<W: Write>(out: &mut W, finding: &Finding) -> Resul
 /// Writes that a database holds a sound project, and flushes.
 pub fn write_sound<W: Write>(out: &mut W, counts: Counts) -> Result<(), Fault>
     // With Ok exactly the line with the three numbers is written, and else a prefix of it.
-    ensures bytes { WritesTo W.contents out.old out.new (sound_line counts) result }
-    // The only fault is `Output`.
-    ensures fault { IsOkUnless result Output }
+    ensures { PrintsAndFlushes W.contents out.old out.new (sound_line counts) result }
 {
     write_flushed(
         out,

@@ -1,9 +1,9 @@
 //! Whether a file reads as its import or its script would read it. No database is opened.
 
-ghost use Rattle.std.specs.Prelude.{◌≡◌, ◌⊎◌, IfOk, IsOkUnless, Ok};
+ghost use Rattle.std.specs.Prelude.{◌≡◌, ◌⊎◌, IfOk, Ok};
 ghost use Rattle.wu_core.specs.declared.fault.Fault.TheVariants.{Memory, Output};
 ghost use Rattle.wu_core.specs.Reads.{IsOrWantsMemory};
-ghost use Rattle.wu_report.specs.Writing.{WritesTo};
+ghost use Rattle.wu_report.specs.Writing.{PrintsAndFlushes, WritesTo};
 ghost use Rattle.wu_cli.specs.Linting.{column_line, column_of, field_line, found_by, found_text, header_wanted, in_line, kind_named, line_by, line_text, Lints, LintsFile, LintsKind, LintsScript, longest_of, nothing_of, read_as, sound_file_text, unfound, unread, unread_text, wanted, wanted_line, wanted_of_key, wanted_text};
 
 use crate::row_lines::line_in_file;
@@ -385,8 +385,7 @@ fn lint_as<F: ReadFile>(alloc: Global, kind: LintKind, path: &str, files: &F) ->
 
 /// Writes that the file reads well, and flushes.
 fn write_sound_file<W: Write>(out: &mut W, path: &str) -> Result<(), Fault>
-    ensures bytes { WritesTo W.contents out.old out.new (sound_file_text path.now) result }
-    ensures fault { IsOkUnless result Output }
+    ensures { PrintsAndFlushes W.contents out.old out.new (sound_file_text path.now) result }
 {
     write_flushed(
         out,

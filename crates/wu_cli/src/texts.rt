@@ -1,10 +1,10 @@
 //! The lines that the program writes on its standard error.
 
-ghost use Rattle.std.specs.Prelude.{◌≡◌, ◌++◌, codes, flat_map, IsOkUnless};
+ghost use Rattle.std.specs.Prelude.{◌≡◌, ◌++◌, codes, flat_map};
 ghost use Rattle.std.specs.Fmt.{decimal};
 ghost use Rattle.wu_core.specs.declared.fault.Fault.TheVariants.{Output};
 ghost use Rattle.wu_report.specs.Texts.{line_end};
-ghost use Rattle.wu_report.specs.Writing.{piece_text, WritesTo};
+ghost use Rattle.wu_report.specs.Writing.{PrintsAndFlushes, WritesTo, piece_text};
 ghost use Rattle.wu_cli.specs.Endings.{bad_line_text, cause_text, fault_line, line_fault_text, line_front, outsider_line, refusal_text, usage_text, WritesAll};
 
 use std::io::Write;
@@ -16,9 +16,7 @@ use wu_report::{Piece, flush, write_pieces};
 /// Writes the pieces in turn, and flushes.
 pub(crate) fn write_flushed<W: Write>(out: &mut W, pieces: &[Piece<'_>]) -> Result<(), Fault>
     // With Ok exactly the texts of the pieces are written, and else a prefix of them.
-    ensures bytes { WritesTo W.contents out.old out.new (flat_map piece_text pieces.now) result }
-    // The only fault is `Output`.
-    ensures fault { IsOkUnless result Output }
+    ensures { PrintsAndFlushes W.contents out.old out.new (flat_map piece_text pieces.now) result }
 {
     write_pieces(out, pieces)?;
     flush(out)
@@ -27,9 +25,7 @@ pub(crate) fn write_flushed<W: Write>(out: &mut W, pieces: &[Piece<'_>]) -> Resu
 /// Writes a text, and flushes.
 pub(crate) fn write_text<W: Write>(out: &mut W, text: &str) -> Result<(), Fault>
     // With Ok exactly the text is written, and else a prefix of it.
-    ensures bytes { WritesTo W.contents out.old out.new text.now result }
-    // The only fault is `Output`.
-    ensures fault { IsOkUnless result Output }
+    ensures { PrintsAndFlushes W.contents out.old out.new text.now result }
 {
     write_pieces(out, &[Piece::Text(text)])?;
     flush(out)

@@ -1,11 +1,9 @@
 //! The texts of answers.
 
-ghost use Rattle.std.specs.Prelude.{IsOkUnless};
-ghost use Rattle.wu_core.specs.declared.fault.Fault.TheVariants.{Output};
 ghost use Rattle.wu_drive.specs.Texts.{batch_text, classes_text, import_text, reply_text};
 ghost use Rattle.wu_machine.specs.Requests.{Cancelled, Passed, Upgraded};
 ghost use Rattle.wu_drive.specs.Writing.{answer_text, applied_text};
-ghost use Rattle.wu_report.specs.Writing.{Prints, WritesTo};
+ghost use Rattle.wu_report.specs.Writing.{Prints, PrintsAndFlushes};
 
 use std::io::Write;
 use wu_core::{Fault, ImportKind, Name};
@@ -162,9 +160,7 @@ fn write_answer_text<W: Write>(out: &mut W, answer: &Answer) -> Result<(), Fault
 pub fn write_answer<W: Write>(out: &mut W, answer: &Answer) -> Result<(), Fault>
     // With Ok exactly the text of the answer is written, and else a prefix of it; a skipped row has
     // the word of its verdict.
-    ensures bytes { WritesTo W.contents out.old out.new (answer_text answer.now) result }
-    // The only fault is `Output`.
-    ensures fault { IsOkUnless result Output }
+    ensures { PrintsAndFlushes W.contents out.old out.new (answer_text answer.now) result }
 {
     write_answer_text(out, answer)?;
     flush(out)

@@ -1,11 +1,12 @@
 -- The rows of a file after its header, as `csv` reads the records. Records are numbered from 1, the header.
-use Rattle.std.specs.Prelude.{◌≡◌, ◌≢◌, ◌⊎◌, ℕ, ◌+◌, ◌<◌, nat_lt, Bool, true, false, ◌&&◌, if◌then◌else◌, bytes_eq, List, [], ◌∷◌, length, take, Result, Ok, Err}
+use Rattle.std.specs.Prelude.{◌≡◌, ◌≢◌, ◌⊎◌, ℕ, ◌+◌, ◌<◌, ◌≤◌, nat_lt, Bool, true, false, ◌&&◌, if◌then◌else◌, bytes_eq, List, [], ◌∷◌, length, take, Result, Ok, Err, IfErr, IfOk}
 use Rattle.csv.specs.Reading.{default_config, records, strip_bom}
+use Rattle.wu_core.specs.Reads.{IsOrWantsMemory}
 use Rattle.wu_core.specs.declared.fault.Fault.{Fault}
 use Rattle.wu_core.specs.declared.fault.Fault.TheVariants.{BadFile, Memory}
 use Rattle.wu_core.specs.declared.fault.FileCause.{FileCause}
 use Rattle.wu_core.specs.declared.fault.FileCause.TheVariants as cause
-use Rattle.wu_feed.specs.Limits.{last_row, longest_file, most_records}
+use Rattle.wu_feed.specs.Limits.{last_row, longest_file, most_records, most_rows}
 
 -- The records of a text, each with its fields.
 abbrev pub records_of : List ℕ → List (List (List ℕ))
@@ -51,6 +52,23 @@ rows_of_file names row_of file =
 abbrev pub TellsTooLong : {T : Type 0} → Result T Fault → List ℕ → Type 0
 TellsTooLong result file = longest_file < length file → result ≡ Err (BadFile 0 cause.TooLong)
 
+-- The fault is out of memory, or refuses the file at a row.
+abbrev pub IsFileFault : Fault → Type 0
+IsFileFault fault = (fault ≡ Memory) ⊎ ((row : ℕ) × (first : FileCause) × (fault ≡ BadFile row first))
+
+-- What reads a whole file whose rows are such.
+pub record ReadsFile {R : Type 0} (result : Result (List R) Fault) (file : List ℕ) (rows_of : List ℕ → Result (List R) Fault) (AreRows : List R → Type 0) : Type 0 where
+  -- The file reads as its rows, or as out of memory; any other is `BadFile` with its first faulty row and first cause.
+  pub exact : IsOrWantsMemory result (rows_of file)
+  -- A file above 1,048,576 bytes is refused as too long, even if the program is out of memory.
+  pub long : TellsTooLong result file
+  -- A fault is `Memory`, or `BadFile` with a row and a cause.
+  pub told : IfErr result IsFileFault
+  -- There are at most 1,000 rows.
+  pub few : IfOk result (λ rows. length rows ≤ most_rows)
+  -- Each row has the written form, within its ranges.
+  pub ranged : IfOk result AreRows
+
 -- Whether the first record is the header.
 abbrev pub has_header : List (List ℕ) → List (List (List ℕ)) → Bool
 has_header names [] = false
@@ -63,7 +81,3 @@ TellsHeader result names records = has_header names records ≡ false → result
 -- A row with another number of fields than the header is refused for that, whatever memory there is.
 abbrev pub TellsFields : {T : Type 0} → Result T Fault → ℕ → List (List ℕ) → List (List ℕ) → Type 0
 TellsFields result number names fields = length fields ≢ length names → result ≡ Err (BadFile number cause.Fields)
-
--- The fault is out of memory, or refuses the file at a row.
-abbrev pub IsFileFault : Fault → Type 0
-IsFileFault fault = (fault ≡ Memory) ⊎ ((row : ℕ) × (first : FileCause) × (fault ≡ BadFile row first))

@@ -1,14 +1,12 @@
 //! Files of classes: a header `host,class`, and a row for each host that gets a class.
 
-ghost use Rattle.std.specs.Prelude.{◌≡◌, ◌≤◌, ◌∷◌, [], All, IfErr, IfOk, length};
+ghost use Rattle.std.specs.Prelude.{◌≡◌, ◌∷◌, []};
 ghost use Rattle.std.specs.Char.{is_ascii_digit};
 ghost use Rattle.std.specs.List.{list_all};
-ghost use Rattle.csv.specs.Records.{fields_of};
 ghost use Rattle.wu_core.specs.Classes.{AreClassed};
 ghost use Rattle.wu_core.specs.Reads.{IsOrWantsMemory, TellsRefusal};
 ghost use Rattle.wu_feed.specs.Classes.{class_written, classes_of_file, host_class_of, is_decimal};
-ghost use Rattle.wu_feed.specs.Limits.{most_rows};
-ghost use Rattle.wu_feed.specs.Rows.{IsFileFault, TellsTooLong};
+ghost use Rattle.wu_feed.specs.Rows.{ReadsFile};
 
 use crate::records::{fault_at, has_names, two_fields};
 use crate::rows::{Row, Rows, read_file};
@@ -94,17 +92,11 @@ impl Row for HostClass {
 /// Any other file is `BadFile` with its first faulty row and the first cause there, from left to right. Rows are
 /// numbered from 1, the header; 0 stands for the whole file.
 pub fn read_classes(alloc: Global, file: &[u8]) -> Result<Classes, Fault>
-    // A file of classes reads as its rows, or as out of memory; any other is `BadFile` with its
-    // first faulty row and first cause.
-    ensures exact { IsOrWantsMemory result (classes_of_file file.now) }
-    // A file above 1,048,576 bytes is refused as too long, even if the program is out of memory.
-    ensures long { TellsTooLong result file.now }
-    // A fault is `Memory`, or `BadFile` with a row and a cause.
-    ensures told { IfErr result IsFileFault }
-    // There are at most 1,000 rows.
-    ensures few { IfOk result (λ classes. length classes ≤ most_rows) }
-    // Each host has the written form of a name, and each class is 1 to 65535.
-    ensures ranged { IfOk result AreClassed }
+    // A file of classes reads as its rows, at most 1,000, or as out of memory; any other is
+    // `BadFile` with its first faulty row and first cause. A file above 1,048,576 bytes is refused
+    // as too long, even if the program is out of memory. Each host has the written form of a name,
+    // and each class is 1 to 65535.
+    ensures { ReadsFile result file.now classes_of_file AreClassed }
 {
     read_file(alloc, file)
 }

@@ -1,15 +1,13 @@
 //! Files of jobs: a header `name,input`, and a row for each job.
 
-ghost use Rattle.std.specs.Prelude.{◌≡◌, ◌≤◌, ◌∷◌, [], All, IfErr, IfOk, length};
+ghost use Rattle.std.specs.Prelude.{◌∷◌, [], All};
 ghost use Rattle.std.specs.Option.{ok_or};
-ghost use Rattle.csv.specs.Records.{fields_of};
 ghost use Rattle.wu_core.specs.Reads.{IsOrWantsMemory};
 ghost use Rattle.wu_core.specs.declared.fault.Fault.TheVariants.{BadFile};
 ghost use Rattle.wu_core.specs.declared.fault.FileCause.TheVariants.{Input};
 ghost use Rattle.wu_feed.specs.Inputs.{input_of};
-ghost use Rattle.wu_feed.specs.Limits.{most_rows};
 ghost use Rattle.wu_feed.specs.Ranges.{IsJob};
-ghost use Rattle.wu_feed.specs.Rows.{IsFileFault, TellsTooLong};
+ghost use Rattle.wu_feed.specs.Rows.{ReadsFile};
 ghost use Rattle.wu_feed.specs.Jobs.{job_of, jobs_of_file};
 ghost use Rattle.wu_feed.specs.Told.{TellsFound};
 
@@ -80,17 +78,11 @@ impl Row for Job {
 /// Any other file is `BadFile` with its first faulty row and the first cause there, from left to right. Rows are
 /// numbered from 1, the header; 0 stands for the whole file.
 pub fn read_jobs(alloc: Global, file: &[u8]) -> Result<Jobs, Fault>
-    // A file of jobs reads as its rows, or as out of memory; any other is `BadFile` with its first
-    // faulty row and first cause.
-    ensures exact { IsOrWantsMemory result (jobs_of_file file.now) }
-    // A file above 1,048,576 bytes is refused as too long, even if the program is out of memory.
-    ensures long { TellsTooLong result file.now }
-    // A fault is `Memory`, or `BadFile` with a row and a cause.
-    ensures told { IfErr result IsFileFault }
-    // There are at most 1,000 rows.
-    ensures few { IfOk result (λ jobs. length jobs ≤ most_rows) }
-    // Each name has the written form of a name, and each input has at most 4,096 bytes.
-    ensures ranged { IfOk result (All IsJob) }
+    // A file of jobs reads as its rows, at most 1,000, or as out of memory; any other is `BadFile`
+    // with its first faulty row and first cause. A file above 1,048,576 bytes is refused as too
+    // long, even if the program is out of memory. Each name has the written form of a name, and
+    // each input has at most 4,096 bytes.
+    ensures { ReadsFile result file.now jobs_of_file (All IsJob) }
 {
     read_file(alloc, file)
 }

@@ -1,12 +1,11 @@
 //! Files of reports: a header `result,host,moment,status,output`, and a row for each instance that was reported.
 
-ghost use Rattle.std.specs.Prelude.{◌≡◌, ◌≤◌, All, IfErr, IfOk, length};
+ghost use Rattle.std.specs.Prelude.{All};
 ghost use Rattle.csv.specs.Records.{fields_of};
 ghost use Rattle.wu_core.specs.Reads.{IsOrWantsMemory};
-ghost use Rattle.wu_feed.specs.Limits.{most_rows};
 ghost use Rattle.wu_feed.specs.Ranges.{IsReportRow};
 ghost use Rattle.wu_feed.specs.Reports.{ending_of, report_of, reported_output, reports_header, reports_of_file};
-ghost use Rattle.wu_feed.specs.Rows.{is_header, IsFileFault, TellsFields, TellsTooLong};
+ghost use Rattle.wu_feed.specs.Rows.{is_header, TellsFields, ReadsFile};
 ghost use Rattle.wu_core.specs.Statuses.{status_of};
 ghost use Rattle.wu_feed.specs.Told.{TellsFound};
 
@@ -122,18 +121,11 @@ impl Row for ReportRow {
 /// Any other file is `BadFile` with its first faulty row and the first cause there, from left to right. Rows are
 /// numbered from 1, the header; 0 stands for the whole file.
 pub fn read_reports(alloc: Global, file: &[u8]) -> Result<Reports, Fault>
-    // A file of reports reads as its rows, or as out of memory; any other is `BadFile` with its
-    // first faulty row and first cause.
-    ensures exact { IsOrWantsMemory result (reports_of_file file.now) }
-    // A file above 1,048,576 bytes is refused as too long, even if the program is out of memory.
-    ensures long { TellsTooLong result file.now }
-    // A fault is `Memory`, or `BadFile` with a row and a cause.
-    ensures told { IfErr result IsFileFault }
-    // There are at most 1,000 rows.
-    ensures few { IfOk result (λ reports. length reports ≤ most_rows) }
-    // Each name has its written form; numbers are 0 to 99, moments up to the end of 2099, and
-    // outputs at most 65,536 bytes.
-    ensures ranged { IfOk result (All IsReportRow) }
+    // A file of reports reads as its rows, at most 1,000, or as out of memory; any other is
+    // `BadFile` with its first faulty row and first cause. A file above 1,048,576 bytes is refused
+    // as too long, even if the program is out of memory. Each name has its written form; numbers
+    // are 0 to 99, moments up to the end of 2099, and outputs at most 65,536 bytes.
+    ensures { ReadsFile result file.now reports_of_file (All IsReportRow) }
 {
     read_file(alloc, file)
 }

@@ -1,11 +1,9 @@
 //! Files of sends: a header `result,host,moment`, and a row for each instance that was sent.
 
-ghost use Rattle.std.specs.Prelude.{◌≡◌, ◌≤◌, ◌∷◌, [], All, IfErr, IfOk, length};
-ghost use Rattle.csv.specs.Records.{fields_of};
+ghost use Rattle.std.specs.Prelude.{◌∷◌, [], All};
 ghost use Rattle.wu_core.specs.Reads.{IsOrWantsMemory, TellsRefusal};
-ghost use Rattle.wu_feed.specs.Limits.{most_rows};
 ghost use Rattle.wu_feed.specs.Ranges.{IsSendRow};
-ghost use Rattle.wu_feed.specs.Rows.{is_header, IsFileFault, TellsTooLong};
+ghost use Rattle.wu_feed.specs.Rows.{is_header, ReadsFile};
 ghost use Rattle.wu_feed.specs.Sends.{send_of, sends_header, sends_of_file};
 
 use crate::moment::read_moment;
@@ -81,18 +79,11 @@ impl Row for SendRow {
 /// Any other file is `BadFile` with its first faulty row and the first cause there, from left to right. Rows are
 /// numbered from 1, the header; 0 stands for the whole file.
 pub fn read_sends(alloc: Global, file: &[u8]) -> Result<Sends, Fault>
-    // A file of sends reads as its rows, or as out of memory; any other is `BadFile` with its first
-    // faulty row and first cause.
-    ensures exact { IsOrWantsMemory result (sends_of_file file.now) }
-    // A file above 1,048,576 bytes is refused as too long, even if the program is out of memory.
-    ensures long { TellsTooLong result file.now }
-    // A fault is `Memory`, or `BadFile` with a row and a cause.
-    ensures told { IfErr result IsFileFault }
-    // There are at most 1,000 rows.
-    ensures few { IfOk result (λ sends. length sends ≤ most_rows) }
-    // Each name has the written form of a name; numbers are 0 to 99, and moments up to the end of
-    // 2099.
-    ensures ranged { IfOk result (All IsSendRow) }
+    // A file of sends reads as its rows, at most 1,000, or as out of memory; any other is `BadFile`
+    // with its first faulty row and first cause. A file above 1,048,576 bytes is refused as too
+    // long, even if the program is out of memory. Each name has the written form of a name; numbers
+    // are 0 to 99, and moments up to the end of 2099.
+    ensures { ReadsFile result file.now sends_of_file (All IsSendRow) }
 {
     read_file(alloc, file)
 }

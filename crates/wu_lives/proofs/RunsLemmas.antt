@@ -35,11 +35,6 @@ use Rattle.wu_lives.specs.Reopening.{IsLeftByRun}
 use Rattle.wu_lives.specs.Runs.{BeginsOver, DoesFirst, HoldsBeginningIn, LivesOn, told_by}
 use Rattle.wu_lives.proofs.ReopeningLemmas.{IsBeginning, answers_none, beginning_none, beginning_of, lived_more}
 
--- both facts hold of what there is
-pub some_both : {A : Type 0} (found : Option A) (P Q : A → Type 0) → IfSome found P → IfSome found Q → IfSome found (λ it. P it × Q it)
-some_both None P Q one other = tt
-some_both (Some it) P Q one other = (one, other)
-
 -- a connection was let go, and its two files
 module _ {D : Type 0} {g : Ghosts D} (old : Held (FileStore D g)) (store : FileStore D g) (files : Files D)
     (numbered : IsClean (view store) → IsTrue (view store).is_numbered) (sound : IsClean (view store) → AreDatabases (recovers store)) (quiet : IsQuiet view faults recovers is_shielded old.store store)

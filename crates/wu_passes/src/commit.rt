@@ -1,8 +1,7 @@
 //! The one function that commits a command's changes.
 
-ghost use Rattle.std.specs.Prelude.{◌≡◌, false, IfErr};
-ghost use Rattle.wu_schema.specs.Calls.{Commits, CrashAllows, Refuses, Undoes};
-ghost use Rattle.wu_schema.specs.Faults.{IsStoreFault};
+ghost use Rattle.std.specs.Prelude.{◌≡◌, false};
+ghost use Rattle.wu_schema.specs.Calls.{Transacts};
 ghost use Rattle.wu_store.specs.Changing.{MakesWorlds};
 
 use sqlite::{Alter, Connection, Error, Transaction};
@@ -29,23 +28,14 @@ impl<'a> TransactionWork for Changes<'a> {
 pub fn change_all<S: Alter>(conn: &mut Connection<S>, changes: &[Change<'_>]) -> Result<(), Fault>
     // The connection is not inside a transaction.
     requires { conn.old.in_transaction ≡ false }
-    // Afterwards the connection is not inside a transaction.
-    ensures mode { conn.new.in_transaction ≡ false }
-    // With Ok, a represented world for which the changes are right is represented with all of them
-    // made, and committed. The tables of other programs stay. The connection is open, and a crash
-    // leaves only these tables.
-    ensures done { Commits S.Store conn.old conn.new result (MakesWorlds changes.now) }
-    // After `NotAProject` the connection is open, the tables are as before, and a crash leaves only
-    // them.
-    ensures refused { Refuses S.Store conn.old conn.new result }
-    // Each fault is one of the store: `Memory`, `Broken` or `NotAProject`.
-    ensures told { IfErr result IsStoreFault }
-    // After any fault the tables are as before while the connection is open, and then a crash
-    // leaves only them.
-    ensures undone { Undoes S.Store conn.old conn.new result }
-    // Whatever the answer, a crash leaves what it could have left before the call, or the tables
-    // with all changes.
-    ensures crash { CrashAllows S.Store conn.old conn.new (MakesWorlds changes.now) }
+    // Afterwards the connection is not inside a transaction. With Ok, a represented world for which
+    // the changes are right is represented with all of them made, and committed. The tables of other
+    // programs stay. The connection is open, and a crash leaves only these tables. A fault is
+    // `Memory`, `Broken` or `NotAProject`. After it the tables are as before while the connection is
+    // open, and then a crash leaves only them. After `NotAProject` the connection is open. Whatever
+    // the answer, a crash leaves what it could have left before the call, or the tables with all
+    // changes.
+    ensures { Transacts S.Store conn.old conn.new result (MakesWorlds changes.now) }
 {
     transact(conn, &Changes(changes))
 }

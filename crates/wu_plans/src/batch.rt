@@ -1,9 +1,9 @@
 //! A batch: what it answers and what it changes, before anything is changed.
 
-ghost use Rattle.std.specs.Prelude.{⊤, ◌≡◌, ◌∷◌, ◌+◌, ◌≤◌, ◌==◌, length, map, if◌then◌else◌, IfOk, IfErr};
+ghost use Rattle.std.specs.Prelude.{⊤, ◌≡◌, ◌∷◌, ◌+◌, ◌≤◌, ◌==◌, length, if◌then◌else◌, IfOk};
 ghost use Rattle.std.specs.Bool.{OnFalse};
 ghost use Rattle.std.specs.List.Sorted.{IsPermutation};
-ghost use Rattle.wu_core.specs.declared.fault.Fault.TheVariants.{Memory};
+ghost use Rattle.wu_core.specs.Reads.{OkOrWantsMemory};
 ghost use Rattle.wu_core.specs.Limits.{most_workunits};
 ghost use Rattle.wu_feed.specs.Limits.{most_rows};
 ghost use Rattle.wu_machine.specs.Batches.{new_workunit};
@@ -103,8 +103,7 @@ fn additions<'a>(
     jobs: Jobs,
 ) -> Result<Vec<Change<'a>>, Fault>
     requires { next + length jobs ≤ most_workunits + 1 }
-    ensures changes { IfOk result (λ changes. changes.items ≡ additions params next jobs) }
-    ensures fault { IfErr result (λ fault. fault ≡ Memory) }
+    ensures { OkOrWantsMemory result (λ changes. changes.items ≡ additions params next jobs) }
 {
     let mut changes = Vec::new(alloc);
     for job in jobs.into_vec() {
@@ -133,8 +132,7 @@ fn new_batch<'a>(
     jobs: Jobs,
 ) -> Result<Plan<'a>, Fault>
     requires { next + length jobs ≤ most_workunits + 1 }
-    ensures plan { IfOk result (IsNewBatch (batch_of batch.now) next params jobs) }
-    ensures fault { IfErr result (λ fault. fault ≡ Memory) }
+    ensures { OkOrWantsMemory result (IsNewBatch (batch_of batch.now) next params jobs) }
 {
     let count = jobs.len();
     let first = first_of(next, count);

@@ -1,7 +1,7 @@
 //! A file of classes of hosts: what it answers and what it changes, before anything is changed.
 
-ghost use Rattle.std.specs.Prelude.{◌≡◌, IfErr, IfOk, map};
-ghost use Rattle.wu_core.specs.declared.fault.Fault.TheVariants.{Memory};
+ghost use Rattle.std.specs.Prelude.{◌≡◌, map};
+ghost use Rattle.wu_core.specs.Reads.{OkOrWantsMemory};
 ghost use Rattle.wu_machine.specs.Requests.{AskClasses};
 ghost use Rattle.wu_plans.specs.Planning.{given_of, IsNewClasses, IsPresentProject, PlansNow, sets_class, PlansWorld};
 
@@ -16,8 +16,7 @@ use wu_store::{Change, import_of};
 
 /// Returns the changes that set the class of each row's host, in the order of the rows.
 fn class_changes<'a>(alloc: Global, classes: Classes) -> Result<Vec<Change<'a>>, Fault>
-    ensures changes { IfOk result (λ changes. changes.items ≡ map sets_class classes) }
-    ensures fault { IfErr result (λ fault. fault ≡ Memory) }
+    ensures { OkOrWantsMemory result (λ changes. changes.items ≡ map sets_class classes) }
 {
     let mut changes = Vec::new(alloc);
     for row in classes.into_vec() {
@@ -29,9 +28,9 @@ fn class_changes<'a>(alloc: Global, classes: Classes) -> Result<Vec<Change<'a>>,
 
 /// Returns the answer and the changes of a file of these classes, under a name that no file of classes had.
 fn new_classes<'a>(alloc: Global, source: &Source<'a>, classes: Classes) -> Result<Plan<'a>, Fault>
-    // The class of each row's host is set in order, so a later row wins, and the file is kept.
-    ensures plan { IfOk result (IsNewClasses (given_of source.now) classes) }
-    ensures fault { IfErr result (λ fault. fault ≡ Memory) }
+    // The class of each row's host is set in order, so a later row wins, and the file is kept. The
+    // only fault is `Memory`.
+    ensures { OkOrWantsMemory result (IsNewClasses (given_of source.now) classes) }
 {
     let verdicts = applied(alloc, classes.len())?;
     let import = kept(alloc, source, 0, verdicts.as_slice())?;

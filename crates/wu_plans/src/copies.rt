@@ -1,23 +1,21 @@
 //! Copies of workunits; out of memory is an error.
 
-ghost use Rattle.std.specs.Prelude.{◌≡◌, IfErr, IfOk};
-ghost use Rattle.wu_core.specs.declared.fault.Fault.TheVariants.{Memory};
+ghost use Rattle.std.specs.Prelude.{◌≡◌};
+ghost use Rattle.wu_core.specs.Reads.{OkOrWantsMemory};
 
 use std::alloc::Global;
 use wu_core::{Bytes, Fault, Instance, Instances, Name, Workunit};
 
 /// Copies the bytes. The only fault is `Memory`.
 fn copy_of_bytes(alloc: Global, bytes: &Bytes) -> Result<Bytes, Fault>
-    ensures copy { IfOk result (λ copy. copy ≡ bytes.now) }
-    ensures fault { IfErr result (λ fault. fault ≡ Memory) }
+    ensures { OkOrWantsMemory result (λ copy. copy ≡ bytes.now) }
 {
     Ok(Bytes::from_vec(Vec::from_slice(alloc, bytes.as_slice())?))
 }
 
 /// Copies the host's name, if there is one. The only fault is `Memory`.
 fn copy_of_host(host: &Option<Name>) -> Result<Option<Name>, Fault>
-    ensures copy { IfOk result (λ copy. copy ≡ host.now) }
-    ensures fault { IfErr result (λ fault. fault ≡ Memory) }
+    ensures { OkOrWantsMemory result (λ copy. copy ≡ host.now) }
 {
     match host {
         Some(name) => Ok(Some(name.copy()?)),
@@ -27,8 +25,7 @@ fn copy_of_host(host: &Option<Name>) -> Result<Option<Name>, Fault>
 
 /// Copies the instance. The only fault is `Memory`.
 fn copy_of_instance(alloc: Global, instance: &Instance) -> Result<Instance, Fault>
-    ensures copy { IfOk result (λ copy. copy ≡ instance.now) }
-    ensures fault { IfErr result (λ fault. fault ≡ Memory) }
+    ensures { OkOrWantsMemory result (λ copy. copy ≡ instance.now) }
 {
     let host = copy_of_host(&instance.host)?;
     let output = copy_of_bytes(alloc, &instance.output)?;
@@ -47,8 +44,7 @@ fn copy_of_instance(alloc: Global, instance: &Instance) -> Result<Instance, Faul
 
 /// Copies the instances, in their order.
 fn copies_of(alloc: Global, instances: &[Instance]) -> Result<Vec<Instance>, Fault>
-    ensures copies { IfOk result (λ copies. copies.items ≡ instances.now) }
-    ensures fault { IfErr result (λ fault. fault ≡ Memory) }
+    ensures { OkOrWantsMemory result (λ copies. copies.items ≡ instances.now) }
 {
     let mut copies = Vec::new(alloc);
     for instance in instances {
@@ -59,10 +55,8 @@ fn copies_of(alloc: Global, instances: &[Instance]) -> Result<Vec<Instance>, Fau
 
 /// Copies the workunit, with its instances.
 pub fn copy_of(alloc: Global, workunit: &Workunit) -> Result<Workunit, Fault>
-    // The copy is the same workunit.
-    ensures copy { IfOk result (λ copy. copy ≡ workunit.now) }
-    // The only fault is `Memory`.
-    ensures fault { IfErr result (λ fault. fault ≡ Memory) }
+    // The copy is the same workunit. The only fault is `Memory`.
+    ensures { OkOrWantsMemory result (λ copy. copy ≡ workunit.now) }
 {
     let name = workunit.name.copy()?;
     let input = copy_of_bytes(alloc, &workunit.input)?;

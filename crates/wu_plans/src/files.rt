@@ -1,7 +1,7 @@
 //! A file of sends or of reports: what its rows leave, what it answers and what it changes, before anything is changed.
 
-ghost use Rattle.std.specs.Prelude.{◌≡◌, ◌≤◌, All, IfOk, IfErr};
-ghost use Rattle.wu_core.specs.declared.fault.Fault.TheVariants.{Memory};
+ghost use Rattle.std.specs.Prelude.{◌≤◌, All, IfOk};
+ghost use Rattle.wu_core.specs.Reads.{OkOrWantsMemory};
 ghost use Rattle.wu_plans.specs.Planning.{given_of, IsNewFile, IsPresentProject, LeavesRows, PlansNow, PlansRows, TakesRows, PlansWorld};
 ghost use Rattle.wu_machine.specs.Requests.{AskReported, AskSent};
 ghost use Rattle.wu_plans.specs.Touched.{LeavesRow, rule_in, TouchesNamed};
@@ -90,9 +90,9 @@ fn apply_rows<R: FileRow, S: Alter>(
 /// Returns the answer and the changes of a file whose rows left this.
 fn new_file<'a>(alloc: Global, source: &Source<'a>, left: AppliedRows) -> Result<Plan<'a>, Fault>
     requires { All (λ verdict. verdict ≤ 9) left.verdicts.items }
-    // Each touched workunit is put in place once, and the file is kept with its verdicts.
-    ensures plan { IfOk result (IsNewFile (given_of source.now) left) }
-    ensures fault { IfErr result (λ fault. fault ≡ Memory) }
+    // Each touched workunit is put in place once, and the file is kept with its verdicts. The only
+    // fault is `Memory`.
+    ensures { OkOrWantsMemory result (IsNewFile (given_of source.now) left) }
 {
     let AppliedRows { touched, verdicts } = left;
     let import = kept(alloc, source, 0, verdicts.as_slice())?;

@@ -1,8 +1,8 @@
 //! A file as it is imported: what is kept of it, and what it answers, now or when it is imported again.
 
 ghost use Rattle.std.specs.Prelude.{◌≡◌, ◌≤◌, All, Err, Ok, IfOk, IfErr, false, replicate};
-ghost use Rattle.wu_core.specs.declared.fault.Fault.TheVariants.{Memory, NameUsed};
-ghost use Rattle.wu_core.specs.Reads.{IsOrWantsMemory};
+ghost use Rattle.wu_core.specs.declared.fault.Fault.TheVariants.{NameUsed};
+ghost use Rattle.wu_core.specs.Reads.{IsOrWantsMemory, OkOrWantsMemory};
 ghost use Rattle.wu_plans.specs.Planning.{given_of, has_same_content, IsRepeated, KeepsImport, RefusesRepeat};
 ghost use Rattle.wu_machine.specs.Commands.{batch_of, file_of};
 
@@ -108,10 +108,9 @@ pub fn kept<'a>(
 ) -> Result<Import<'a>, Fault>
     // Each verdict is one digit.
     requires { All (λ verdict. verdict ≤ 9) verdicts.now }
-    // It has the kind, the name, the content, the first number and the verdicts.
-    ensures kept { IfOk result (KeepsImport (given_of source.now) first_number verdicts.now) }
-    // The only fault is `Memory`.
-    ensures fault { IfErr result (λ fault. fault ≡ Memory) }
+    // It has the kind, the name, the content, the first number and the verdicts. The only fault is
+    // `Memory`.
+    ensures { OkOrWantsMemory result (KeepsImport (given_of source.now) first_number verdicts.now) }
 {
     Ok(Import {
         kind: source.kind,

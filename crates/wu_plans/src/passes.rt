@@ -1,8 +1,8 @@
 //! A pass: what it makes of the workunits that it takes, what it answers and what it changes, before anything is
 //! changed.
 
-ghost use Rattle.std.specs.Prelude.{⊤, ◌≡◌, ◌<◌, ◌≤◌, ◌^◌, ◌++◌, [], true, length, map, None, IfErr, IfOk};
-ghost use Rattle.wu_core.specs.declared.fault.Fault.TheVariants.{Memory};
+ghost use Rattle.std.specs.Prelude.{⊤, ◌≡◌, ◌<◌, ◌≤◌, ◌^◌, ◌++◌, [], true, length, map, None};
+ghost use Rattle.wu_core.specs.Reads.{OkOrWantsMemory};
 ghost use Rattle.wu_machine.specs.Machine.{is_limit_right};
 ghost use Rattle.wu_plans.specs.PassPlans.{asked, AddsArchivedRows, AddsFrom, PlansGrants, AddsGiven, HandlesAll, HandlesAlso, IsImageOf, PlansTaken};
 ghost use Rattle.wu_plans.specs.Planning.{IsPresentProject, PlansNow, PlansProject};
@@ -139,10 +139,8 @@ fn image_of<'a>(
     mut workunit: Workunit,
 ) -> Result<Image<'a>, Fault>
     // The image, its grants and its archived row are what the pass's definition makes of the
-    // workunit.
-    ensures image { IfOk result (IsImageOf pass now workunit) }
-    // The only fault is `Memory`.
-    ensures fault { IfErr result (λ fault. fault ≡ Memory) }
+    // workunit. The only fault is `Memory`.
+    ensures { OkOrWantsMemory result (IsImageOf pass now workunit) }
 {
     match pass {
         Pass::Transition => {
@@ -188,8 +186,7 @@ struct Handled<'a> {
 impl<'a> Handled<'a> {
     /// Adds what the pass makes of one more workunit.
     fn push(&mut self, image: Image<'a>) -> Result<(), Fault>
-        ensures added { IfOk result (λ _. HandlesAlso image.entry self.old self.new) }
-        ensures fault { IfErr result (λ fault. fault ≡ Memory) }
+        ensures { OkOrWantsMemory result (λ _. HandlesAlso image.entry self.old self.new) }
     {
         let Image {
             change,
@@ -212,10 +209,9 @@ fn handle<'a>(
     now: Moment,
     taken: Vec<Workunit>,
 ) -> Result<Handled<'a>, Fault>
-    // There is a change for each workunit, in order, with its grants and its archived row.
-    ensures all { IfOk result (HandlesAll pass now taken.items) }
-    // The only fault is `Memory`.
-    ensures fault { IfErr result (λ fault. fault ≡ Memory) }
+    // There is a change for each workunit, in order, with its grants and its archived row. The only
+    // fault is `Memory`.
+    ensures { OkOrWantsMemory result (HandlesAll pass now taken.items) }
 {
     let mut handled = Handled {
         changes: Vec::new(alloc),
@@ -237,11 +233,9 @@ pub fn with_grants(
     grants: Vec<Grant>,
 ) -> Result<(), Fault>
     // The grants get consecutive places from this one on, with one sum a host, except where two
-    // would pass 64 bits.
-    ensures added { IfOk result (λ _.
-        AddsFrom place grants.items changes.old.items changes.new.items) }
-    // The only fault is `Memory`.
-    ensures fault { IfErr result (λ fault. fault ≡ Memory) }
+    // would pass 64 bits. The only fault is `Memory`.
+    ensures { OkOrWantsMemory result
+        (λ _. AddsFrom place grants.items changes.old.items changes.new.items) }
 {
     let sums = sums_of(alloc, grants.as_slice())?;
     changes.push(Change::Grants(place, grants, sums))?;
@@ -256,11 +250,9 @@ pub fn with_archived(
 ) -> Result<(), Fault>
     // The place is at most 2^63.
     requires { place ≤ 2 ^ 63 }
-    // The rows get consecutive places from this one on.
-    ensures added { IfOk result (λ _.
-        changes.new.items ≡ changes.old.items ++ archived_from place archived.items) }
-    // The only fault is `Memory`.
-    ensures fault { IfErr result (λ fault. fault ≡ Memory) }
+    // The rows get consecutive places from this one on. The only fault is `Memory`.
+    ensures { OkOrWantsMemory result
+        (λ _. changes.new.items ≡ changes.old.items ++ archived_from place archived.items) }
 {
     let mut seq = place;
     for row in archived {
@@ -354,8 +346,7 @@ fn plan_taken<'a, S: Alter>(
 
 /// Returns a change for each number, which removes its workunit.
 fn removals<'a>(alloc: Global, numbers: Vec<u64>) -> Result<Vec<Change<'a>>, Fault>
-    ensures all { IfOk result (λ changes. changes.items ≡ map Remove numbers.items) }
-    ensures fault { IfErr result (λ fault. fault ≡ Memory) }
+    ensures { OkOrWantsMemory result (λ changes. changes.items ≡ map Remove numbers.items) }
 {
     let mut changes = Vec::new(alloc);
     for number in numbers {

@@ -4,6 +4,7 @@ ghost use Rattle.std.specs.Prelude.{◌≡◌, ◌++◌, [], ◌∷◌, false, m
 ghost use Rattle.std.specs.Cmp.Lexicographic.{slice_cmp};
 ghost use Rattle.std.specs.List.Sorted.{IsPermutation, IsSorted};
 ghost use Rattle.std.specs.Ordering.{nat_cmp};
+ghost use Rattle.wu_core.specs.Reads.{OkOrWantsMemory};
 ghost use Rattle.wu_core.specs.declared.fault.Fault.TheVariants.{Memory};
 ghost use Rattle.wu_plans.specs.Summing.{sum_of, with_more, AreFew, PassTogether, SumsAlso};
 ghost use Rattle.wu_store.specs.Sums.{AreSums};
@@ -34,8 +35,7 @@ fn by_hosts<'a>(alloc: Global, grants: &'a [Grant]) -> Result<Vec<&'a Grant>, Fa
 
 /// Returns the sum of one grant.
 fn sum_of(grant: &Grant) -> Result<HostSum, Fault>
-    ensures sum { IfOk result (λ sum. sum ≡ sum_of grant.now) }
-    ensures fault { IfErr result (λ fault. fault ≡ Memory) }
+    ensures { OkOrWantsMemory result (λ sum. sum ≡ sum_of grant.now) }
 {
     Ok(HostSum {
         name: grant.host.copy()?,
@@ -46,8 +46,8 @@ fn sum_of(grant: &Grant) -> Result<HostSum, Fault>
 
 /// Begins a sum with a grant, after the others.
 fn begin(sums: &mut Vec<HostSum>, grant: &Grant) -> Result<(), Fault>
-    ensures begun { IfOk result (λ _. sums.new.items ≡ sums.old.items ++ sum_of grant.now ∷ []) }
-    ensures fault { IfErr result (λ fault. fault ≡ Memory) }
+    ensures { OkOrWantsMemory result
+        (λ _. sums.new.items ≡ sums.old.items ++ sum_of grant.now ∷ []) }
 {
     sums.push(sum_of(grant)?)?;
     Ok(())
@@ -77,8 +77,7 @@ fn grow(sum: &mut HostSum, grant: &Grant) -> bool
 
 /// Adds a grant to the last of these sums, or after them where it is to another host or would not fit.
 fn add(sums: &mut Vec<HostSum>, grant: &Grant) -> Result<(), Fault>
-    ensures added { IfOk result (λ _. SumsAlso grant.now sums.old.items sums.new.items) }
-    ensures fault { IfErr result (λ fault. fault ≡ Memory) }
+    ensures { OkOrWantsMemory result (λ _. SumsAlso grant.now sums.old.items sums.new.items) }
 {
     let Some(mut last) = sums.pop() else {
         return begin(sums, grant);

@@ -1,6 +1,7 @@
 //! The changes that make a world of an empty one.
 
 ghost use Rattle.std.specs.Prelude.{◌≡◌, ◌++◌, map, All, IfErr, IfOk, OnOk};
+ghost use Rattle.wu_core.specs.Reads.{OkOrWantsMemory};
 ghost use Rattle.wu_audit.specs.LoadedWorlds.{world_of_parts};
 ghost use Rattle.wu_core.specs.declared.fault.Fault.TheVariants.{Memory};
 ghost use Rattle.wu_core.specs.Storable.{AreVerdicts};
@@ -53,8 +54,7 @@ fn add_grants(alloc: Global, changes: &mut Vec<Change<'_>>, grants: Vec<Grant>) 
 /// Returns what is kept of an import, which lends its content.
 fn kept_of<'a>(alloc: Global, import: &'a Imported) -> Result<Import<'a>, Fault>
     requires { AreVerdicts import.now.kind import.now.verdicts }
-    ensures kept { IfOk result (λ kept. import_of_change kept ≡ import.now) }
-    ensures fault { IfErr result (λ fault. fault ≡ Memory) }
+    ensures { OkOrWantsMemory result (λ kept. import_of_change kept ≡ import.now) }
 {
     Ok(Import {
         kind: import.kind(),

@@ -38,6 +38,13 @@ pub record Prints {W T : Type 0} (contents : W → Option (List ℕ)) (old new :
   -- The only fault is `Output`.
   pub fault : IsOkUnless result Output
 
+-- What a call prints that flushes. The flush may fail after the whole text.
+pub record PrintsAndFlushes {W T : Type 0} (contents : W → Option (List ℕ)) (old new : W) (text : List ℕ) (result : Result T Fault) : Type 0 where
+  -- With Ok exactly the text is written, and else a prefix of it.
+  pub bytes : WritesTo contents old new text result
+  -- The only fault is `Output`.
+  pub fault : IsOkUnless result Output
+
 -- The text of a piece.
 abbrev pub piece_text : Piece → List ℕ
 piece_text (Text text) = text.now

@@ -1,5 +1,5 @@
 -- How a transaction ends: what each exit makes of the connection that it began on.
-use Rattle.wu_schema.proofs.Words.{Database, Error, Ghosts, HasCleanDisk, Held, IsBack, IsPart, IsTrue, IsUnchanged, IsUndone, NotAProject, Survives, Trees, arith, false, fault_of, inl, inr, refl, state, subst, sym, true, ◌∙◌, ◌≡◌, ◌≢◌}
+use Rattle.wu_schema.proofs.Words.{Database, Err, Error, Ghosts, HasCleanDisk, Held, IsBack, IsPart, IsTrue, IsUnchanged, IsUndone, NotAProject, Survives, Trees, arith, false, fault_of, inl, inr, refl, state, subst, sym, true, ◌∙◌, ◌≡◌, ◌≢◌}
 use Rattle.std.proofs.lemmas.Bool.{both_ways}
 use Rattle.sqlite.proofs.StateLemmas.{survives_then}
 use Rattle.sqlite.specs.State.{IsRolledBack, Shows}
@@ -7,7 +7,7 @@ use Rattle.sqlite.specs.Steps.{FailsToCommit}
 use Rattle.wu_core.specs.declared.fault.Fault.{Fault}
 use Rattle.wu_schema.proofs.AskingLemmas.{fault_told}
 use Rattle.wu_schema.proofs.CallLemmas.{begun_part, leaves_only, undone_after}
-use Rattle.wu_schema.specs.Calls.{CommitsNothing, CrashAllows, GoesBack, IsDone, IsMade, IsRefused, LeavesOnly, Serves}
+use Rattle.wu_schema.specs.Calls.{CommitsNothing, CrashAllows, GoesBack, IsDone, IsMade, IsRefused, LeavesOnly, Serves, Transacts}
 use Rattle.wu_schema.specs.Faults.{IsStoreFault, commit_fault_of, unless_known}
 
 -- no transaction is open, and all is as it was
@@ -75,17 +75,6 @@ module _ {S : Type 0} (g : Ghosts S) (settled : (s : S) (db : Trees) → IsTrue 
         crash = allows;
       }
 
-  -- a fault after that, which the connection may have been probed for
-  abbrev pub ToldUndone : Held S → Fault → Held S → Type 0
-  ToldUndone old fault end = record {
-    mode : end.in_transaction ≡ false;
-    done : HasCleanDisk (state g end) → Unit {0};
-    refused : HasCleanDisk (state g end) → fault ≡ NotAProject → IsRefused (state g old) (state g end);
-    undone : HasCleanDisk (state g end) → IsUndone (state g old) (state g end);
-    told : IsStoreFault fault;
-    crash : CrashAllows g old end Makes;
-  }
-
   module _ (old mid end : Held S) (mode : mid.in_transaction ≡ false) (was : HasCleanDisk (state g mid) → IsUndone (state g old) (state g mid)) (allows : CrashAllows g old mid Makes) (nothing : CommitsNothing g mid end) where
     mid_undone : HasCleanDisk (state g end) → IsUndone (state g old) (state g mid)
     mid_undone clean = was (omega (arith, nothing.clean, clean))
@@ -111,7 +100,8 @@ module _ {S : Type 0} (g : Ghosts S) (settled : (s : S) (db : Trees) → IsTrue 
           left = subst (λ (db : Database). LeavesOnly (state g end) db.trees) same (leaves_only g settled stays end unchanged.0.is_open);
         }
 
-    pub probed : (fault : Fault) → (mid.in_transaction ≡ false → end.in_transaction ≡ false) → IsStoreFault fault → Serves g mid end fault → GoesBack g mid end → ToldUndone old fault end
+    -- a fault after that, which the connection may have been probed for
+    pub probed : {T : Type 0} (fault : Fault) → (mid.in_transaction ≡ false → end.in_transaction ≡ false) → IsStoreFault fault → Serves g mid end fault → GoesBack g mid end → Transacts {T = T} g old end (Err fault) Makes
     probed fault ends told serves back = record {
       mode = ends mode;
       done = λ clean. tt;

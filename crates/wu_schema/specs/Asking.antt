@@ -12,7 +12,7 @@ use Rattle.sqlite.specs.declared.error.Error.{Error}
 use Rattle.wu_core.specs.declared.fault.Fault.{Fault}
 use Rattle.wu_core.specs.declared.fault.Fault.TheVariants.{Broken}
 use Rattle.wu_schema.specs.Calls.{HasBroken, IsBack}
-use Rattle.wu_schema.specs.Faults.{fault_of, IsFailure}
+use Rattle.wu_schema.specs.Faults.{fault_of, IsFailure, IsStoreFault}
 
 -- The text is a SELECT.
 pub record IsSelect (text : List ℕ) : Type 0 where
@@ -41,6 +41,20 @@ abbrev pub ServesUnlessFailed : {S T : Type 0} → Ghosts S → Held S → Resul
 ServesUnlessFailed g new result =
     HasCleanDisk (state g new)
     → MatchResult result (λ _. IsTrue (state g new).is_open) (λ fault. IsFailure fault ⊎ IsTrue (state g new).is_open)
+
+-- What one question does to a connection, what its answer shows and what its fault tells.
+pub record Queries {S T : Type 0} (g : Ghosts S) (old new : Held S) (result : Result T Fault) (sql : List ℕ) (params : Row) (Shows Fails : Ghosts S → Held S → Held S → Result T Fault → List ℕ → Row → Type 0) : Type 0 where
+  -- A SELECT begins no transaction and commits nothing. Except after `Memory` and `Broken` all is as before. `Broken`
+  -- means a failed disk or a closed connection.
+  pub asks : IsSelect sql → Asks g old new result
+  -- After a SELECT the connection is open, except after `Memory` and `Broken`.
+  pub opens : IsSelect sql → ServesUnlessFailed g new result
+  -- After `Ok` this shows the answer of the store to the question.
+  pub shows : Shows g old new result sql params
+  -- A fault tells this of an error of the question.
+  pub fails : Fails g old new result sql params
+  -- A fault is `Memory`, `Broken` or `NotAProject`.
+  pub told : IfErr result IsStoreFault
 
 -- The fault reports an error of the question.
 abbrev pub TellsQuery : List ℕ → Row → State → State → Fault → Type 0

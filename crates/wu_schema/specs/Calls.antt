@@ -13,11 +13,9 @@ use Rattle.sqlite.specs.declared.error.ErrorCode.TheVariants.{TransactionState}
 use Rattle.sqlite.specs.declared.transaction.Transaction.{Transaction}
 use Rattle.wu_core.specs.declared.fault.Fault.{Fault}
 use Rattle.wu_core.specs.declared.fault.Fault.TheVariants.{Broken, NotAProject}
-use Rattle.wu_core.specs.World.{World}
 use Rattle.wu_schema.specs.declared.transaction.Stopped.{Stopped}
 use Rattle.wu_schema.specs.declared.transaction.Stopped.TheVariants.{Commit, Statement}
-use Rattle.wu_schema.specs.Faults.{commit_fault_of, fault_of}
-use Rattle.wu_schema.specs.Refines.{Refines}
+use Rattle.wu_schema.specs.Faults.{commit_fault_of, fault_of, IsStoreFault}
 
 -- A crash leaves only these tables.
 pub record LeavesOnly (s : State) (trees : Trees) : Type 0 where
@@ -118,6 +116,15 @@ RunsText g old new result sql params = HasCleanDisk (state g new.conn.now) → O
 abbrev pub RefusesText : {S T : Type 0} → Ghosts S → Transaction S → Transaction S → Result T Error → List ℕ → Row → Type 0
 RefusesText g old new result sql params = HasCleanDisk (state g new.conn.now) → IfErr result (λ e. (e ≡ SqliteFailure TransactionState) ⊎ Executes sql params (state g old.conn.now) (state g new.conn.now) (Err e))
 
+-- What a call does that runs this one statement in a transaction.
+pub record RunsStatement {S T : Type 0} (g : Ghosts S) (old new : Transaction S) (result : Result T Error) (sql : List ℕ) (params : Row) : Type 0 where
+  -- It commits nothing, so a crash leaves what it left before. After `Ok` the transaction is still open.
+  pub writes : StatementFrame g old new result
+  -- After `Ok` the statement ran.
+  pub ran : RunsText g old new result sql params
+  -- An error is the one with which the statement was refused, or means that the transaction had ended before.
+  pub refused : RefusesText g old new result sql params
+
 -- What any number of statements in a transaction do to it. With success it is still there, if it was.
 pub record TransactionFrame {S T E : Type 0} (g : Ghosts S) (old new : Transaction S) (result : Result T E) : Type 0 where
   pub same_reference : new.conn.ghost_name ≡ old.conn.ghost_name
@@ -128,9 +135,15 @@ pub record TransactionFrame {S T E : Type 0} (g : Ghosts S) (old new : Transacti
 abbrev pub Does : {S T E : Type 0} → (g : Ghosts S) → Transaction S → Transaction S → Result T E → (Database → Database → Type 0) → Type 0
 Does g old new result Makes = HasCleanDisk (state g new.conn.now) → OnOk result (Makes (state g old.conn.now).now (state g new.conn.now).now)
 
--- With success, tables that represented a world represent what this makes of it.
-abbrev pub Changes : {S T E : Type 0} → (g : Ghosts S) → Transaction S → Transaction S → Result T E → (World → World) → Type 0
-Changes g old new result change = Does g old new result (λ before after. (world : World) → Refines before world → Refines after (change world))
+-- What a call makes of a database inside a transaction. Its last step is a statement.
+pub record Creates {S T : Type 0} (g : Ghosts S) (old new : Transaction S) (result : Result T Error) (Makes : Database → Database → Type 0) (Over : Database → Type 0) : Type 0 where
+  -- It commits nothing, so a crash leaves what it left before. After `Ok` the transaction is still open.
+  pub writes : StatementFrame g old new result
+  -- After `Ok` this is made.
+  pub makes : Does g old new result Makes
+  -- Over a database of this kind, an error that counts as `Broken` means that the disk failed in this call, or that the
+  -- connection was not open.
+  pub breaks : BreaksOver g old.conn.now new.conn.now result Over
 
 -- The transaction's changes of the database are made and committed, and a crash leaves only the tables with them.
 pub record IsDone (Makes : Database → Database → Type 0) (old new : State) : Type 0 where
@@ -174,3 +187,18 @@ Undoes g old new result = HasCleanDisk (state g new) → OnErr result (IsUndone 
 -- Whatever the answer, a crash leaves what it could leave before, or the changes made.
 abbrev pub CrashAllows : {S : Type 0} → Ghosts S → Held S → Held S → (Database → Database → Type 0) → Type 0
 CrashAllows g old new Makes = Survives (state g old) (state g new) (IsMade Makes (state g old).now)
+
+-- What one transaction does that makes and commits such changes, at each exit.
+pub record Transacts {S T : Type 0} (g : Ghosts S) (old new : Held S) (result : Result T Fault) (Makes : Database → Database → Type 0) : Type 0 where
+  -- The connection is in no transaction afterwards.
+  pub mode : new.in_transaction ≡ false
+  -- After `Ok` the changes are made and committed, the connection is open, and a crash leaves exactly them.
+  pub done : Commits g old new result Makes
+  -- After `NotAProject` the connection is open, the tables are as before, and a crash leaves exactly them.
+  pub refused : Refuses g old new result
+  -- After any fault, while the connection is open, the tables are as before, and a crash leaves exactly them.
+  pub undone : Undoes g old new result
+  -- A fault is `Memory`, `Broken` or `NotAProject`.
+  pub told : IfErr result IsStoreFault
+  -- Whatever the answer, a crash leaves what it left before, or the tables with the changes.
+  pub crash : CrashAllows g old new Makes

@@ -1,9 +1,7 @@
 //! One question: its rows, or the fault for its error.
 
-ghost use Rattle.std.specs.Prelude.{IfErr};
 ghost use Rattle.sqlite.specs.Values.{bound};
-ghost use Rattle.wu_schema.specs.Asking.{Asks, FailsAll, IsSelect, ServesUnlessFailed, ShowsAll};
-ghost use Rattle.wu_schema.specs.Faults.{IsStoreFault};
+ghost use Rattle.wu_schema.specs.Asking.{FailsAll, Queries, ShowsAll};
 
 use crate::fault::fault_of;
 use sqlite::{Alter, Connection, Row};
@@ -16,17 +14,11 @@ pub fn query<S: Alter>(
     sql: &str,
     params: &[ValueRef<'_>],
 ) -> Result<Vec<Row>, Fault>
-    // A SELECT begins no transaction and commits nothing; except after `Memory` and `Broken` all is
-    // as before; `Broken` means a failed disk or closed connection.
-    ensures asks { IsSelect sql.now → Asks S.Store conn.old conn.new result }
-    // After a SELECT the connection is open, except after `Memory` and `Broken`.
-    ensures opens { IsSelect sql.now → ServesUnlessFailed S.Store conn.new result }
-    // After `Ok` the rows are the answer of the store to the question with these parameters.
-    ensures shows { ShowsAll S.Store conn.old conn.new result sql.now (bound params.now) }
-    // A fault is that of an error with which the store refuses the question.
-    ensures fails { FailsAll S.Store conn.old conn.new result sql.now (bound params.now) }
-    // A fault is `Memory`, `Broken` or `NotAProject`.
-    ensures told { IfErr result IsStoreFault }
+    // A SELECT begins no transaction and commits nothing. Except after `Memory` and `Broken` all is as
+    // before, and the connection is open; `Broken` means a failed disk or a closed connection. After
+    // `Ok` the rows are the answer of the store to the question with these parameters. A fault is
+    // `Memory`, `Broken` or `NotAProject`, that of an error with which the store refuses the question.
+    ensures { Queries S.Store conn.old conn.new result sql.now (bound params.now) ShowsAll FailsAll }
 {
     match conn.query_all(sql, params) {
         Ok(rows) => Ok(rows),

@@ -1,11 +1,10 @@
 //! The creation of a project, in one transaction.
 
-ghost use Rattle.std.specs.Prelude.{◌≡◌, false, IfErr};
+ghost use Rattle.std.specs.Prelude.{◌≡◌, ⊤, false, IfErr};
 ghost use Rattle.sqlite.specs.Effect.{IsDatabase};
 ghost use Rattle.wu_schema.specs.Fresh.{MakesProject, RefusesTaken};
 ghost use Rattle.wu_schema.specs.Made.{HasBareProject, MakesEmpty, MakesTables, PutsProject, work_tables, record_tables};
-ghost use Rattle.wu_schema.specs.Calls.{BreaksAfter, BreaksOver, BreaksTruly, StatementFrame, Does, Commits, CrashAllows, Refuses, Undoes};
-ghost use Rattle.wu_schema.specs.Faults.{IsStoreFault};
+ghost use Rattle.wu_schema.specs.Calls.{BreaksTruly, Creates, Transacts};
 
 use crate::classes::create_classes;
 use crate::queue::make_queue;
@@ -19,30 +18,18 @@ use wu_core::{Fault, PRESENT_VERSION};
 
 /// Adds the one row of the project: this version, and 1 as the number of the next workunit.
 fn insert_project<S: Alter>(tx: &mut Transaction<'_, S>, version: i64) -> Result<(), Error>
-    // Commits nothing, so a crash leaves what it left before; after `Ok` the transaction is still
-    // open.
-    ensures writes { StatementFrame S.Store tx.old tx.new result }
     // After `Ok` the table `project` has the row of a fresh project of this version, and every
     // other table stays.
-    ensures puts { Does S.Store tx.old tx.new result (PutsProject version) }
-    // Where no index is on `project`, an error that counts as `Broken` means that the disk failed,
-    // or that the connection was not open.
-    ensures breaks { BreaksOver S.Store tx.old.conn.now tx.new.conn.now result HasBareProject }
+    ensures { Creates S.Store tx.old tx.new result (PutsProject version) HasBareProject }
 {
     execute(tx, INSERT_PROJECT, params![version])
 }
 
 /// Makes the tables of a project and of its workunits.
 fn create_work<S: Alter>(tx: &mut Transaction<'_, S>) -> Result<(), Error>
-    // Commits nothing, so a crash leaves what it left before; after `Ok` the transaction is still
-    // open.
-    ensures writes { StatementFrame S.Store tx.old tx.new result }
     // After `Ok` `project`, `workunit` and `result` are there and empty, nothing had their names,
     // and what was there stays.
-    ensures makes { Does S.Store tx.old tx.new result (MakesTables work_tables) }
-    // An error that counts as `Broken` means that the disk failed in this call, or that the
-    // connection was not open.
-    ensures breaks { BreaksAfter S.Store tx.old.conn.now tx.new.conn.now result }
+    ensures { Creates S.Store tx.old tx.new result (MakesTables work_tables) (λ _. ⊤) }
 {
     execute(tx, CREATE_PROJECT, &[])?;
     execute(tx, CREATE_WORKUNIT, &[])?;
@@ -51,15 +38,9 @@ fn create_work<S: Alter>(tx: &mut Transaction<'_, S>) -> Result<(), Error>
 
 /// Makes the tables of what is kept permanently.
 fn create_records<S: Alter>(tx: &mut Transaction<'_, S>) -> Result<(), Error>
-    // Commits nothing, so a crash leaves what it left before; after `Ok` the transaction is still
-    // open.
-    ensures writes { StatementFrame S.Store tx.old tx.new result }
     // After `Ok` the tables of grants, hosts, the archive and imports are there and empty, nothing
     // had their names, and what was there stays.
-    ensures makes { Does S.Store tx.old tx.new result (MakesTables record_tables) }
-    // An error that counts as `Broken` means that the disk failed in this call, or that the
-    // connection was not open.
-    ensures breaks { BreaksAfter S.Store tx.old.conn.now tx.new.conn.now result }
+    ensures { Creates S.Store tx.old tx.new result (MakesTables record_tables) (λ _. ⊤) }
 {
     execute(tx, CREATE_CREDIT_GRANT, &[])?;
     execute(tx, CREATE_HOST, &[])?;
@@ -69,15 +50,9 @@ fn create_records<S: Alter>(tx: &mut Transaction<'_, S>) -> Result<(), Error>
 
 /// Makes all tables of the present version except the queue, with the row of a fresh project.
 fn create_empty<S: Alter>(tx: &mut Transaction<'_, S>) -> Result<(), Error>
-    // Commits nothing, so a crash leaves what it left before; after `Ok` the transaction is still
-    // open.
-    ensures writes { StatementFrame S.Store tx.old tx.new result }
     // After `Ok` these tables represent the empty world, nothing had their names, nothing else is
     // added, and what was there stays.
-    ensures makes { Does S.Store tx.old tx.new result MakesEmpty }
-    // Over a database that obeys its schema, an error that counts as `Broken` means a failed disk
-    // or a closed connection.
-    ensures breaks { BreaksOver S.Store tx.old.conn.now tx.new.conn.now result IsDatabase }
+    ensures { Creates S.Store tx.old tx.new result MakesEmpty IsDatabase }
 {
     create_work(tx)?;
     create_records(tx)?;
@@ -87,15 +62,9 @@ fn create_empty<S: Alter>(tx: &mut Transaction<'_, S>) -> Result<(), Error>
 
 /// Makes all tables of the present version, with the row of a fresh project.
 fn create_all<S: Alter>(tx: &mut Transaction<'_, S>) -> Result<(), Error>
-    // Commits nothing, so a crash leaves what it left before; after `Ok` the transaction is still
-    // open.
-    ensures writes { StatementFrame S.Store tx.old tx.new result }
     // After `Ok` the tables and an empty queue represent the empty world, nothing had their names,
     // and what was there stays.
-    ensures makes { Does S.Store tx.old tx.new result MakesProject }
-    // Over a database that obeys its schema, an error that counts as `Broken` means a failed disk
-    // or a closed connection.
-    ensures breaks { BreaksOver S.Store tx.old.conn.now tx.new.conn.now result IsDatabase }
+    ensures { Creates S.Store tx.old tx.new result MakesProject IsDatabase }
 {
     create_empty(tx)?;
     make_queue(tx)
@@ -124,21 +93,12 @@ impl TransactionWork for Creation {
 pub fn create<S: Alter>(conn: &mut Connection<S>) -> Result<(), Fault>
     // The connection is in no transaction.
     requires { conn.old.in_transaction ≡ false }
-    // The connection is in no transaction afterwards.
-    ensures mode { conn.new.in_transaction ≡ false }
-    // After `Ok` the new tables represent the empty world with an empty queue, all else is as it
-    // was, and exactly this is committed.
-    ensures done { Commits S.Store conn.old conn.new result MakesProject }
-    // After `NotAProject` the connection is open, the tables are as before, and a crash leaves
-    // exactly them.
-    ensures refused { Refuses S.Store conn.old conn.new result }
-    // After a fault, while the connection is open, the tables are as before, and a crash leaves
-    // exactly them.
-    ensures undone { Undoes S.Store conn.old conn.new result }
-    // A crash leaves what it left before, or the fresh project with all else as it was.
-    ensures crash { CrashAllows S.Store conn.old conn.new MakesProject }
-    // A fault is `Memory`, `Broken` or `NotAProject`.
-    ensures told { IfErr result IsStoreFault }
+    // The connection is in no transaction afterwards. After `Ok` the new tables represent the empty
+    // world with an empty queue, all else is as it was, and exactly this is committed. A fault is
+    // `Memory`, `Broken` or `NotAProject`; after it, while the connection is open, the tables are as
+    // before, and a crash leaves exactly them. After `NotAProject` the connection is open. Whatever
+    // the answer, a crash leaves what it left before, or the fresh project with all else as it was.
+    ensures transacts { Transacts S.Store conn.old conn.new result MakesProject }
     // `Broken` means that the disk failed in this call, or that the connection was not open.
     ensures breaks { IfErr result (BreaksTruly S.Store conn.old conn.new) }
     // Where a name of the schema is taken, no project is made: the fault is `NotAProject`,

@@ -1,6 +1,7 @@
 //! The queue of schema version 2: its table and its indexes.
 
-ghost use Rattle.wu_schema.specs.Calls.{BreaksAfter, BreaksOver, Does, StatementFrame};
+ghost use Rattle.std.specs.Prelude.{⊤};
+ghost use Rattle.wu_schema.specs.Calls.{Creates};
 ghost use Rattle.wu_schema.specs.Indexes.{mark_indexes, moment_indexes};
 ghost use Rattle.wu_schema.specs.Queue.{HasEmpty, MakesIndexes, MakesQueue, queue_table};
 
@@ -13,9 +14,7 @@ use sqlite::{Alter, Error, Transaction};
 
 /// Makes the indexes by which a pass finds the workunits with its mark, in order of number.
 fn create_mark_indexes<S: Alter>(tx: &mut Transaction<'_, S>) -> Result<(), Error>
-    ensures writes { StatementFrame S.Store tx.old tx.new result }
-    ensures makes { Does S.Store tx.old tx.new result (MakesIndexes queue_table mark_indexes) }
-    ensures breaks { BreaksOver S.Store tx.old.conn.now tx.new.conn.now result
+    ensures { Creates S.Store tx.old tx.new result (MakesIndexes queue_table mark_indexes)
         (HasEmpty queue_table) }
 {
     execute(tx, CREATE_QUEUE_VALIDATE, &[])?;
@@ -25,9 +24,7 @@ fn create_mark_indexes<S: Alter>(tx: &mut Transaction<'_, S>) -> Result<(), Erro
 
 /// Makes the indexes by which a pass finds the workunits that are due at a moment.
 fn create_moment_indexes<S: Alter>(tx: &mut Transaction<'_, S>) -> Result<(), Error>
-    ensures writes { StatementFrame S.Store tx.old tx.new result }
-    ensures makes { Does S.Store tx.old tx.new result (MakesIndexes queue_table moment_indexes) }
-    ensures breaks { BreaksOver S.Store tx.old.conn.now tx.new.conn.now result
+    ensures { Creates S.Store tx.old tx.new result (MakesIndexes queue_table moment_indexes)
         (HasEmpty queue_table) }
 {
     execute(tx, CREATE_QUEUE_WAKE, &[])?;
@@ -38,15 +35,11 @@ fn create_moment_indexes<S: Alter>(tx: &mut Transaction<'_, S>) -> Result<(), Er
 ///
 /// Returns the store's error if one of the names is taken. What was made before the error goes with the transaction.
 pub fn make_queue<S: Alter>(tx: &mut Transaction<'_, S>) -> Result<(), Error>
-    // Commits nothing, so a crash leaves what it left before; after `Ok` the transaction is still
-    // open.
-    ensures writes { StatementFrame S.Store tx.old tx.new result }
-    // After `Ok` the empty queue with its five indexes, and nothing else, is added, nothing had
-    // their names, and each represented world stays.
-    ensures makes { Does S.Store tx.old tx.new result MakesQueue }
-    // An error that counts as `Broken` means that the disk failed in this call, or that the
-    // connection was not open.
-    ensures breaks { BreaksAfter S.Store tx.old.conn.now tx.new.conn.now result }
+    // After `Ok` the empty queue with its five indexes, and nothing else, is added, nothing had their
+    // names, each represented world stays, and the transaction is still open. Commits nothing, so a
+    // crash leaves what it left before. An error that counts as `Broken` means that the disk failed
+    // in this call, or that the connection was not open.
+    ensures { Creates S.Store tx.old tx.new result MakesQueue (λ _. ⊤) }
 {
     execute(tx, CREATE_QUEUE, &[])?;
     create_mark_indexes(tx)?;

@@ -1,10 +1,9 @@
 //! One transaction: the work that is done in it, and what holds at each exit.
 
-ghost use Rattle.std.specs.Prelude.{◌≡◌, false, IfErr};
+ghost use Rattle.std.specs.Prelude.{◌≡◌, false};
 ghost use Rattle.sqlite.specs.Values.{bound};
 ghost use Rattle.sqlite.specs.Effect.{Database};
-ghost use Rattle.wu_schema.specs.Calls.{BreaksFor, BreaksOver, BreaksStopped, StatementFrame, TransactionFrame, Does, RefusesText, RunsText, Commits, CrashAllows, Refuses, Undoes};
-ghost use Rattle.wu_schema.specs.Faults.{IsStoreFault};
+ghost use Rattle.wu_schema.specs.Calls.{BreaksFor, BreaksOver, BreaksStopped, TransactionFrame, Does, RunsStatement, Commits, CrashAllows, Transacts, Undoes};
 
 use crate::fault::{commit_fault_of, fault_after};
 use sqlite::{Alter, Connection, Error, Transaction};
@@ -17,14 +16,10 @@ pub fn execute<S: Alter>(
     sql: &str,
     params: &[ValueRef<'_>],
 ) -> Result<(), Error>
-    // Commits nothing, so a crash leaves what it left before; after `Ok` the transaction is still
-    // open.
-    ensures writes { StatementFrame S.Store tx.old tx.new result }
-    // After `Ok` the statement ran with these parameters in the transaction.
-    ensures ran { RunsText S.Store tx.old tx.new result sql.now (bound params.now) }
-    // An error is the one with which the statement was refused, or means that the transaction had
-    // ended before.
-    ensures refused { RefusesText S.Store tx.old tx.new result sql.now (bound params.now) }
+    // Commits nothing, so a crash leaves what it left before. After `Ok` the statement ran with these
+    // parameters, and the transaction is still open. An error is the one with which the statement was
+    // refused, or means that the transaction had ended before.
+    ensures { RunsStatement S.Store tx.old tx.new result sql.now (bound params.now) }
 {
     tx.execute(sql, params)?;
     Ok(())
@@ -91,21 +86,12 @@ pub fn transact<S: Alter, W: TransactionWork>(
 ) -> Result<(), Fault>
     // The connection is in no transaction.
     requires { conn.old.in_transaction ≡ false }
-    // The connection is in no transaction afterwards.
-    ensures mode { conn.new.in_transaction ≡ false }
-    // After `Ok` the work is done and committed, the connection is open, and a crash leaves exactly
-    // this.
-    ensures done { Commits S.Store conn.old conn.new result (W.makes work.now) }
-    // After `NotAProject` the connection is open, the tables are as before, and a crash leaves
-    // exactly them.
-    ensures refused { Refuses S.Store conn.old conn.new result }
-    // After a fault, while the connection is open, the tables are as before, and a crash leaves
-    // exactly them.
-    ensures undone { Undoes S.Store conn.old conn.new result }
-    // A fault is `Memory`, `Broken` or `NotAProject`.
-    ensures told { IfErr result IsStoreFault }
-    // A crash leaves what it left before, or what the work makes.
-    ensures crash { CrashAllows S.Store conn.old conn.new (W.makes work.now) }
+    // The connection is in no transaction afterwards. After `Ok` the work is done and committed, the
+    // connection is open, and a crash leaves exactly this. A fault is `Memory`, `Broken` or
+    // `NotAProject`; after it, while the connection is open, the tables are as before, and a crash
+    // leaves exactly them. After `NotAProject` the connection is open. Whatever the answer, a crash
+    // leaves what it left before, or what the work makes.
+    ensures transacts { Transacts S.Store conn.old conn.new result (W.makes work.now) }
     // Over a database of `breaks_over`, `Broken` means that the disk failed in this call, or that
     // the connection was not open.
     ensures breaks { BreaksFor S.Store conn.old conn.new result (W.breaks_over work.now) }

@@ -1,11 +1,11 @@
 //! Where a session starts: two files are opened, and the project in them is adopted.
 
 ghost use Rattle.std.specs.Prelude.{IfSome, IsTrue};
-ghost use Rattle.sqlite.specs.Files.{file_state, image_of};
+ghost use Rattle.sqlite.specs.Files.{file_state, image_of, over_files};
 ghost use Rattle.sqlite.specs.Held.{state};
-ghost use Rattle.wu_passes.specs.Adopting.{Adopts};
-ghost use Rattle.wu_passes.specs.Projects.{IsSessionOpen, IsOpen, IsUnlimited, KnowsTables, state_of};
+ghost use Rattle.wu_passes.specs.Projects.{BeginsSession, state_of};
 ghost use Rattle.wu_stops.specs.Beginning.{BeginsAgain, BeginsBlank, GoesFromTables, GoesAgain, LeavesAdopted};
+ghost use Rattle.wu_stops.specs.Sessions.{OpensSession, ResumesSession};
 ghost use Rattle.wu_stops.specs.Stopping.{WasClean};
 
 use crate::stopping::stop_and_open;
@@ -16,9 +16,7 @@ use wu_passes::Project;
 
 /// Begins a session over the project in a database, whose version it then knows. Returns `None` if the adoption fails.
 fn begin_session<S: Alter + Drop>(conn: Connection<S>) -> Option<Project<S>>
-    ensures begins { IfSome result IsSessionOpen }
-    ensures adopted { IfSome result (λ project. Adopts (state S.Store conn) (state_of project)) }
-    ensures knows { IfSome result KnowsTables }
+    ensures { IfSome result (BeginsSession S.Store conn) }
 {
     match Project::adopt(conn) {
         Ok(project) => Some(project),
@@ -31,13 +29,10 @@ fn begin_session<S: Alter + Drop>(conn: Connection<S>) -> Option<Project<S>>
 /// It is one function for all its callers: that two files serve as a store is proved again in each that begins a
 /// session over any store.
 pub fn begin<D: Disk + Drop>(conn: Connection<FileStore<D>>) -> Option<Project<FileStore<D>>>
-    // The session has not ended.
-    ensures begins { IfSome result IsSessionOpen }
-    // A found project is kept untouched, else a fresh one is made; the connection was open and is,
+    // The session has not ended, and knows the version of whatever world the tables represent. A
+    // found project is kept untouched, else a fresh one is made. The connection was open and is,
     // without a limit on steps.
-    ensures adopted { IfSome result (λ project. Adopts (file_state conn) (state_of project)) }
-    // Whatever world the tables represent, the session knows the version of it.
-    ensures knows { IfSome result KnowsTables }
+    ensures { IfSome result (BeginsSession over_files conn) }
 {
     begin_session(conn)
 }
@@ -67,22 +62,13 @@ pub fn open_and_adopt<D: Disk + Drop>(
     requires log { IsTrue (D.Disk.is_usable files.log) }
     // The file of the database can be used.
     requires db { IsTrue (D.Disk.is_usable files.db) }
-    // The session has not ended.
-    ensures begins { IfSome result IsSessionOpen }
-    // The session has no limit on steps.
-    ensures unlimited { IfSome result IsUnlimited }
-    // The connection is open.
-    ensures opens { IfSome result IsOpen }
-    // Whatever world the tables represent, the session knows the version of it.
-    ensures knows { IfSome result KnowsTables }
-    // Over a database without a byte the session begins from the empty world, and further commands
-    // go on from there.
-    ensures blank { IfSome result
-        (λ project. BeginsBlank (image_of D.Disk files) (state_of project)) }
-    // Over files that hold the tables of a world the session goes on from it, and knows its
-    // version.
-    ensures found { IfSome result
-        (λ project. GoesFromTables (image_of D.Disk files) (state_of project)) }
+    // The session has not ended, its connection is open without a limit on steps, and it knows the
+    // version of whatever world the tables represent. Over a database without a byte it begins from
+    // the empty world, and further commands go on from there. Over files that hold the tables of a
+    // world it goes on from that, and knows its version.
+    ensures { IfSome result (λ project. OpensSession
+        (BeginsBlank (image_of D.Disk files) (state_of project))
+        (GoesFromTables (image_of D.Disk files) (state_of project)) project) }
 {
     match Connection::open_files(alloc, files, options) {
         Ok(conn) => begin(conn),
@@ -101,16 +87,12 @@ pub fn adopt_stop_and_adopt<D: Crash + Drop>(
     conn: Connection<FileStore<D>>,
     options: Options,
 ) -> Option<Project<FileStore<D>>>
-    // The session has not ended.
-    ensures begins { IfSome result IsSessionOpen }
-    // A disk with no fault by now had none before the first adoption.
-    ensures clean { IfSome result (λ project. WasClean (file_state conn) (state_of project)) }
-    // Whatever world the tables represent, the session knows the version of it.
-    ensures knows { IfSome result KnowsTables }
-    // Where no project was, the session begins from the empty world.
-    ensures free { IfSome result (BeginsAgain conn) }
-    // Where a project was, the session goes on from its world, and knows its version.
-    ensures found { IfSome result (GoesAgain conn) }
+    // The session has not ended, and knows the version of whatever world the tables represent. A disk
+    // with no fault by now had none before the first adoption. Where no project was, the session
+    // begins from the empty world. Where one was, it goes on from its world, and knows its version.
+    ensures { IfSome result (λ project. ResumesSession
+        (WasClean (file_state conn) (state_of project))
+        (BeginsAgain conn project) (GoesAgain conn project) project) }
 {
     match stop_and_open(alloc, adopt_and_release(conn), options) {
         Some(again) => begin(again),

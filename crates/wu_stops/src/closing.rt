@@ -5,9 +5,10 @@
 
 ghost use Rattle.std.specs.Prelude.{IfSome};
 ghost use Rattle.sqlite.specs.Files.{file_state};
-ghost use Rattle.wu_passes.specs.Projects.{IsSessionOpen, KnowsTables, state_of};
+ghost use Rattle.wu_passes.specs.Projects.{state_of};
 ghost use Rattle.wu_stops.specs.Beginning.{BeginsAgain, GoesAgain};
 ghost use Rattle.wu_stops.specs.Closing.{AfterClose, BeginsUnclosed, FindsClosed, FindsStopped, FindsUnclosed, GoesUnclosed, KeepsClosed, KeepsUnclosed, KeepsWorlds, WasCleanClosed, WasCleanUnclosed};
+ghost use Rattle.wu_stops.specs.Sessions.{ResumesSession};
 ghost use Rattle.wu_stops.specs.Stopping.{FindsAgain, WasClean};
 
 use crate::beginning::begin;
@@ -113,18 +114,12 @@ pub fn stop_and_adopt_unclosed<D: Crash + Drop>(
     left: FileStore<D>,
     options: Options,
 ) -> Option<Project<FileStore<D>>>
-    // The session has not ended.
-    ensures begins { IfSome result IsSessionOpen }
-    // A disk with no fault by now had none before the close.
-    ensures clean { IfSome result (λ project. WasCleanUnclosed left (state_of project)) }
-    // Whatever world the tables represent, the session knows the version of it.
-    ensures knows { IfSome result KnowsTables }
-    // Where no project was and the store is numbered as its catalog says, the session begins from
-    // the empty world.
-    ensures free { IfSome result (BeginsUnclosed left) }
-    // Where a project was and the store is numbered as its catalog says, the session goes on from
-    // its world.
-    ensures found { IfSome result (GoesUnclosed left) }
+    // The session has not ended, and knows the version of whatever world the tables represent. A disk
+    // with no fault by now had none before the close. If the store is numbered as its catalog says,
+    // the session goes on from the world of the project, or begins from the empty world where none
+    // was.
+    ensures { IfSome result (λ project. ResumesSession (WasCleanUnclosed left (state_of project))
+        (BeginsUnclosed left project) (GoesUnclosed left project) project) }
 {
     let again = stop_and_open_unclosed(alloc, left, options)?;
     begin(again)
@@ -141,18 +136,13 @@ pub fn close_stop_and_adopt<D: Crash + Drop>(
     conn: Connection<FileStore<D>>,
     options: Options,
 ) -> Option<(Result<(), Error>, Project<FileStore<D>>)>
-    // The session has not ended.
-    ensures begins { IfSome result (λ r. IsSessionOpen r.1) }
-    // A disk with no fault by now had none before the close.
-    ensures clean { IfSome result (λ r. WasClean (file_state conn) (state_of r.1)) }
-    // Whatever world the tables represent, the session knows the version of it.
-    ensures knows { IfSome result (λ r. KnowsTables r.1) }
-    // Where no project was, the session begins from the empty world. After a failed close its store
-    // has to be numbered.
-    ensures free { IfSome result (λ r. AfterClose conn r.0 (BeginsAgain conn r.1)) }
-    // Where a project was, the session goes on from its world from before the close. After a failed
-    // close its store has to be numbered.
-    ensures found { IfSome result (λ r. AfterClose conn r.0 (GoesAgain conn r.1)) }
+    // The session has not ended, and knows the version of whatever world the tables represent. A disk
+    // with no fault by now had none before the close. The session goes on from the world of the
+    // project from before the close, or begins from the empty world where none was. After a failed
+    // close its store has to be numbered for that.
+    ensures { IfSome result (λ r. ResumesSession (WasClean (file_state conn) (state_of r.1))
+        (AfterClose conn r.0 (BeginsAgain conn r.1)) (AfterClose conn r.0 (GoesAgain conn r.1))
+        r.1) }
 {
     let (closed, again) = close_stop_and_open(alloc, conn, options)?;
     let project = begin(again)?;

@@ -3,8 +3,8 @@
 //! A disk may fail at any call and from then on, so a crash during an opening is one of these crashes.
 
 ghost use Rattle.std.specs.Prelude.{IfSome};
-ghost use Rattle.wu_passes.specs.Projects.{IsSessionOpen, IsOpen, IsUnlimited, KnowsTables};
 ghost use Rattle.wu_stops.specs.Leftovers.{BeginsAfter, GoesAfter};
+ghost use Rattle.wu_stops.specs.Sessions.{OpensSession};
 
 use crate::beginning::begin;
 use sqlite::{Connection, FileStore, Files, Leftover, Options};
@@ -24,20 +24,12 @@ pub fn stop_and_open_left<D: Crash + Drop>(
     left: Leftover<D>,
     options: Options,
 ) -> Option<Project<FileStore<D>>>
-    // The session has not ended.
-    ensures begins { IfSome result IsSessionOpen }
-    // The session has no limit on steps.
-    ensures unlimited { IfSome result IsUnlimited }
-    // The connection is open.
-    ensures opens { IfSome result IsOpen }
-    // Whatever world the tables represent, the session knows the version of it.
-    ensures knows { IfSome result KnowsTables }
-    // Where a crash leaves no byte in the database, the session begins from the empty world. A
-    // store that is left has to be numbered.
-    ensures blank { IfSome result (BeginsAfter left) }
-    // Where a crash leaves files that hold a world, the session goes on from it, of a known
-    // version. A store that is left has to be numbered.
-    ensures found { IfSome result (GoesAfter left) }
+    // The session has not ended, its connection is open without a limit on steps, and it knows the
+    // version of whatever world the tables represent. Where a crash leaves no byte in the database,
+    // it begins from the empty world. Where a crash leaves files that hold a world, it goes on from
+    // that, of a known version. A store that is left has to be numbered for both.
+    ensures { IfSome result (λ project. OpensSession (BeginsAfter left project)
+        (GoesAfter left project) project) }
 {
     let Files { mut log, mut db } = left.into_files();
     log.crash();

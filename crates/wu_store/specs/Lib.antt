@@ -10,4 +10,5 @@ pub mod Changing
 pub mod Due
 pub mod Queues
 pub mod Classes
+pub mod Writes
 pub mod Differences

@@ -3,12 +3,13 @@
 ghost use Rattle.std.specs.Prelude.{◌≡◌, ◌≤◌, [], ◌∷◌, option_map, Some};
 ghost use Rattle.wu_core.specs.Storable.{bare};
 ghost use Rattle.wu_rules.specs.Marks.{marks};
-ghost use Rattle.wu_schema.specs.Calls.{StatementFrame, TransactionFrame, Does};
+ghost use Rattle.wu_schema.specs.Calls.{TransactionFrame, Does};
 ghost use Rattle.wu_schema.specs.Others.{Spares, SparesBeside, SparesOthers, SparesWith, tables_of_workunits};
 ghost use Rattle.wu_schema.specs.Queue.{queue_table};
 ghost use Rattle.wu_store.specs.Changes.{AddsGrants, AddsInstances, Credits, DoesNothing, FillsQueue, LeavesQueue, Places, PutsClassOf, PutsGrants, PutsInstance, PutsInstances, PutsMarks, PutsRow, Replaces, ReplacesAny, SparesUpgraded, Upgrades, UpgradesQueue};
 ghost use Rattle.wu_store.specs.Changing.{MakesWorlds};
 ghost use Rattle.wu_store.specs.Queues.{KeepsQueue};
+ghost use Rattle.wu_store.specs.Writes.{PutsUnless, Works, WritesSparing};
 
 use crate::classes::{put_host_class, set_class, upgrade_classes};
 use crate::differences::{is_same_instance, is_same_marks, is_same_row};
@@ -103,12 +104,11 @@ fn insert_instances<S: Alter>(tx: &mut Transaction<'_, S>, workunit: &Workunit) 
 
 /// Adds a workunit at its place in order of number, with its instances, and its marks in the queue.
 fn add<S: Alter>(tx: &mut Transaction<'_, S>, workunit: &Workunit) -> Result<(), Error>
-    ensures writes { StatementFrame S.Store tx.old tx.new result }
     // After `Ok`, a represented world with classes has the workunit at its place by number, with
-    // its instances, class and marks.
-    ensures adds { Does S.Store tx.old tx.new result (Places workunit.now) }
-    // After `Ok`, if the tables of workunits are there, those of other programs stay.
-    ensures spares { Does S.Store tx.old tx.new result (SparesWith tables_of_workunits) }
+    // its instances, class and marks. If the tables of workunits are there, those of other programs
+    // stay. Commits nothing; after `Ok` the transaction is still open.
+    ensures { WritesSparing S.Store tx.old tx.new result (Places workunit.now)
+        (SparesWith tables_of_workunits) }
 {
     insert_workunit(tx, workunit)?;
     insert_instances(tx, workunit)?;
@@ -118,12 +118,11 @@ fn add<S: Alter>(tx: &mut Transaction<'_, S>, workunit: &Workunit) -> Result<(),
 /// Puts a workunit in the place of the present one of its number. Deletes that one with its instances and marks, and
 /// adds the new one.
 fn replace_whole<S: Alter>(tx: &mut Transaction<'_, S>, workunit: &Workunit) -> Result<(), Error>
-    ensures writes { StatementFrame S.Store tx.old tx.new result }
     // After `Ok`, a represented world with classes and a workunit of this number has this one in
-    // its place.
-    ensures replaces { Does S.Store tx.old tx.new result (ReplacesAny workunit.now) }
-    // After `Ok`, if the tables of workunits are there, those of other programs stay.
-    ensures spares { Does S.Store tx.old tx.new result (SparesWith tables_of_workunits) }
+    // its place. If the tables of workunits are there, those of other programs stay. Commits
+    // nothing; after `Ok` the transaction is still open.
+    ensures { WritesSparing S.Store tx.old tx.new result (ReplacesAny workunit.now)
+        (SparesWith tables_of_workunits) }
 {
     delete_workunit(tx, workunit.number)?;
     add(tx, workunit)
@@ -135,14 +134,12 @@ fn put_row<S: Alter>(
     was: &Workunit,
     workunit: &Workunit,
 ) -> Result<(), Error>
-    ensures works { TransactionFrame S.Store tx.old tx.new result }
     // After `Ok`, if `was` is the present workunit of its number, its row is that of `workunit`.
-    // Its instances, its class and a queue stay.
-    ensures puts { Does S.Store tx.old tx.new result (PutsRow was.now workunit.now) }
-    // If the row is unchanged, nothing is written and the call succeeds.
-    ensures idle { bare was.now ≡ bare workunit.now → DoesNothing tx.old tx.new result }
-    // After `Ok`, if the tables of workunits are there, those of other programs stay.
-    ensures spares { Does S.Store tx.old tx.new result (SparesWith tables_of_workunits) }
+    // Its instances, its class and a queue stay. If the row is unchanged, nothing is written and
+    // the call succeeds. If the tables of workunits are there, those of other programs stay.
+    // Commits nothing; after `Ok` the transaction is open if it was.
+    ensures { PutsUnless S.Store tx.old tx.new result (bare was.now ≡ bare workunit.now)
+        (PutsRow was.now workunit.now) }
 {
     if is_same_row(was, workunit) {
         return Ok(());
@@ -156,14 +153,12 @@ fn put_class<S: Alter>(
     was: &Workunit,
     workunit: &Workunit,
 ) -> Result<(), Error>
-    ensures works { TransactionFrame S.Store tx.old tx.new result }
     // After `Ok`, in a world with classes where the row is already that of `workunit`, the class is
-    // too. A queue stays.
-    ensures puts { Does S.Store tx.old tx.new result (PutsClassOf was.now workunit.now) }
-    // If the class is unchanged, nothing is written and the call succeeds.
-    ensures idle { was.now.class ≡ workunit.now.class → DoesNothing tx.old tx.new result }
-    // After `Ok`, if the tables of workunits are there, those of other programs stay.
-    ensures spares { Does S.Store tx.old tx.new result (SparesWith tables_of_workunits) }
+    // too. A queue stays. If the class is unchanged, nothing is written and the call succeeds. If
+    // the tables of workunits are there, those of other programs stay. Commits nothing; after `Ok`
+    // the transaction is open if it was.
+    ensures { PutsUnless S.Store tx.old tx.new result (was.now.class ≡ workunit.now.class)
+        (PutsClassOf was.now workunit.now) }
 {
     if was.class == workunit.class {
         return Ok(());
@@ -179,16 +174,13 @@ fn put_instance<S: Alter>(
     was: Option<&Instance>,
     instance: &Instance,
 ) -> Result<(), Error>
-    ensures works { TransactionFrame S.Store tx.old tx.new result }
     // After `Ok`, if the instance at the place was `was`, or the place is the next and had none, it
-    // is the new one. A queue stays.
-    ensures puts { Does S.Store tx.old tx.new result
+    // is the new one. A queue stays. If the instance is unchanged, nothing is written and the call
+    // succeeds. If the tables of workunits are there, those of other programs stay. Commits
+    // nothing; after `Ok` the transaction is open if it was.
+    ensures { PutsUnless S.Store tx.old tx.new result
+        (option_map (λ i. i.now) was.entry ≡ Some instance.now)
         (PutsInstance workunit n (option_map (λ i. i.now) was.entry) instance.now) }
-    // If the instance is unchanged, nothing is written and the call succeeds.
-    ensures idle { option_map (λ i. i.now) was.entry ≡ Some instance.now
-        → DoesNothing tx.old tx.new result }
-    // After `Ok`, if the tables of workunits are there, those of other programs stay.
-    ensures spares { Does S.Store tx.old tx.new result (SparesWith tables_of_workunits) }
 {
     match was {
         None => insert_instance(tx, workunit, n, instance),
@@ -208,14 +200,12 @@ fn put_instances<S: Alter>(
     was: &[Instance],
     workunit: &Workunit,
 ) -> Result<(), Error>
-    ensures works { TransactionFrame S.Store tx.old tx.new result }
     // After `Ok`, if the workunit had the instances `was`, which are no more than those of
-    // `workunit`, it has those of `workunit`. A queue stays.
-    ensures puts { Does S.Store tx.old tx.new result (PutsInstances workunit.now was.now) }
-    // If the instances are unchanged, nothing is written and the call succeeds.
-    ensures idle { was.now ≡ workunit.now.instances → DoesNothing tx.old tx.new result }
-    // After `Ok`, if the tables of workunits are there, those of other programs stay.
-    ensures spares { Does S.Store tx.old tx.new result (SparesWith tables_of_workunits) }
+    // `workunit`, it has those of `workunit`. A queue stays. If the instances are unchanged,
+    // nothing is written and the call succeeds. If the tables of workunits are there, those of
+    // other programs stay. Commits nothing; after `Ok` the transaction is open if it was.
+    ensures { PutsUnless S.Store tx.old tx.new result (was.now ≡ workunit.now.instances)
+        (PutsInstances workunit.now was.now) }
 {
     let instances = workunit.instances.as_slice();
     let mut n = 0;
@@ -232,14 +222,12 @@ fn put_marks<S: Alter>(
     was: &Workunit,
     workunit: &Workunit,
 ) -> Result<(), Error>
-    ensures works { TransactionFrame S.Store tx.old tx.new result }
     // After `Ok`, if the queue had the marks of `was`, it has those of `workunit` in their place.
-    // The world stays.
-    ensures puts { Does S.Store tx.old tx.new result (PutsMarks was.now workunit.now) }
-    // If the marks are unchanged, nothing is written and the call succeeds.
-    ensures idle { marks was.now ≡ marks workunit.now → DoesNothing tx.old tx.new result }
-    // After `Ok`, if the tables of workunits are there, those of other programs stay.
-    ensures spares { Does S.Store tx.old tx.new result (SparesWith tables_of_workunits) }
+    // The world stays. If the marks are unchanged, nothing is written and the call succeeds. If the
+    // tables of workunits are there, those of other programs stay. Commits nothing; after `Ok` the
+    // transaction is open if it was.
+    ensures { PutsUnless S.Store tx.old tx.new result (marks was.now ≡ marks workunit.now)
+        (PutsMarks was.now workunit.now) }
 {
     let marks = marks_of(workunit);
     if is_same_marks(&marks_of(was), &marks) {
@@ -255,14 +243,12 @@ fn replace<S: Alter>(
     was: &Workunit,
     workunit: &Workunit,
 ) -> Result<(), Error>
-    ensures works { TransactionFrame S.Store tx.old tx.new result }
     // After `Ok`, a represented world with classes and the workunit `was` has `workunit` in its
-    // place, with class, instances and marks.
-    ensures replaces { Does S.Store tx.old tx.new result (Replaces was.now workunit.now) }
-    // If the workunit is unchanged, nothing is written and the call succeeds.
-    ensures idle { was.now ≡ workunit.now → DoesNothing tx.old tx.new result }
-    // After `Ok`, if the tables of workunits are there, those of other programs stay.
-    ensures spares { Does S.Store tx.old tx.new result (SparesWith tables_of_workunits) }
+    // place, with class, instances and marks. If the workunit is unchanged, nothing is written and
+    // the call succeeds. If the tables of workunits are there, those of other programs stay.
+    // Commits nothing; after `Ok` the transaction is open if it was.
+    ensures { PutsUnless S.Store tx.old tx.new result (was.now ≡ workunit.now)
+        (Replaces was.now workunit.now) }
 {
     if workunit.instances.len() < was.instances.len() {
         return replace_whole(tx, workunit);
@@ -316,12 +302,11 @@ fn upgrade<S: Alter>(
     from: u64,
     rows: &[(u64, Marks)],
 ) -> Result<(), Error>
-    ensures writes { StatementFrame S.Store tx.old tx.new result }
     // After `Ok`, a represented world of this version without classes, whose marks these are, is at
-    // version 3 with its queue.
-    ensures upgrades { Does S.Store tx.old tx.new result (Upgrades from rows.now) }
-    // After `Ok`, if the tables represented such a world, those of other programs stay.
-    ensures spares { Does S.Store tx.old tx.new result (SparesUpgraded from rows.now) }
+    // version 3 with its queue. If the tables represented such a world, those of other programs
+    // stay. Commits nothing; after `Ok` the transaction is still open.
+    ensures { WritesSparing S.Store tx.old tx.new result (Upgrades from rows.now)
+        (SparesUpgraded from rows.now) }
 {
     upgrade_queue(tx, from, rows)?;
     upgrade_classes(tx, rows)
@@ -333,10 +318,9 @@ fn insert_grants<S: Alter>(
     place: u64,
     grants: &[Grant],
 ) -> Result<(), Error>
-    ensures works { TransactionFrame S.Store tx.old tx.new result }
     // After `Ok`, if the place is the next one, the table of grants has these after the others.
-    // Every other table stays.
-    ensures puts { Does S.Store tx.old tx.new result (PutsGrants place grants.now) }
+    // Every other table stays. Commits nothing; after `Ok` the transaction is open if it was.
+    ensures { Works S.Store tx.old tx.new result (PutsGrants place grants.now) }
 {
     let mut seq = place;
     for grant in grants {
@@ -348,10 +332,10 @@ fn insert_grants<S: Alter>(
 
 /// Adds each of these sums to those of its host.
 fn add_sums<S: Alter>(tx: &mut Transaction<'_, S>, sums: &[HostSum]) -> Result<(), Error>
-    ensures works { TransactionFrame S.Store tx.old tx.new result }
     // After `Ok`, if the rows of hosts had the sums of some grants, they have those of these grants
-    // and any more with these sums. Tables that no foreign key ties to hosts stay.
-    ensures credits { Does S.Store tx.old tx.new result (Credits sums.now) }
+    // and any more with these sums. Tables that no foreign key ties to hosts stay. Commits nothing;
+    // after `Ok` the transaction is open if it was.
+    ensures { Works S.Store tx.old tx.new result (Credits sums.now) }
 {
     for sum in sums {
         add_sum(tx, sum)?;
@@ -382,10 +366,10 @@ fn add_grants<S: Alter>(
 
 /// Makes one change.
 fn make<S: Alter>(tx: &mut Transaction<'_, S>, change: &Change<'_>) -> Result<(), Error>
-    ensures works { TransactionFrame S.Store tx.old tx.new result }
     // After `Ok`, if the change is right for a represented world, the tables and the queue
-    // represent that world with it made.
-    ensures makes { Does S.Store tx.old tx.new result (MakesWorlds (change.now ∷ [])) }
+    // represent that world with it made. Commits nothing; after `Ok` the transaction is open if it
+    // was.
+    ensures { Works S.Store tx.old tx.new result (MakesWorlds (change.now ∷ [])) }
 {
     match change {
         Change::Add(workunit) => add(tx, workunit),
@@ -407,13 +391,11 @@ fn make<S: Alter>(tx: &mut Transaction<'_, S>, change: &Change<'_>) -> Result<()
 
 /// Makes all changes inside a transaction, one after another.
 pub fn apply<S: Alter>(tx: &mut Transaction<'_, S>, changes: &[Change<'_>]) -> Result<(), Error>
-    // Commits nothing, so a crash leaves what it left before; after `Ok` the transaction is open if
-    // it was.
-    ensures works { TransactionFrame S.Store tx.old tx.new result }
     // After `Ok`, if the changes are right for a represented world, the tables represent that world
     // with all of them made. From version 2 on the queue then has the marks of each workunit, and
-    // no other rows. The tables of other programs stay, if they have no foreign key.
-    ensures makes { Does S.Store tx.old tx.new result (MakesWorlds changes.now) }
+    // no other rows. The tables of other programs stay, if they have no foreign key. Commits
+    // nothing; after `Ok` the transaction is open if it was.
+    ensures { Works S.Store tx.old tx.new result (MakesWorlds changes.now) }
 {
     for change in changes {
         make(tx, change)?;

@@ -6,6 +6,7 @@ ghost use Rattle.wu_schema.specs.Made.{host_class_table, workunit_class_table};
 ghost use Rattle.wu_schema.specs.Others.{Spares, SparesBeside};
 ghost use Rattle.wu_store.specs.Classes.{AddsClass, ChangesClasses, FillsClasses, LoadsClass, LoadsHostClass, PutsClass, UpgradesClasses, class_named, class_numbered, with_classed_host, with_set_class};
 ghost use Rattle.wu_store.specs.Reads.{FindsAt, ReadsClassed, ReadsClassedIf};
+ghost use Rattle.wu_store.specs.Writes.{WritesSparing};
 
 use crate::statements::{ask_row, key_of, set_version, signed};
 use crate::texts::{
@@ -61,14 +62,10 @@ pub fn upgrade_classes<S: Alter>(
     tx: &mut Transaction<'_, S>,
     rows: &[(u64, Marks)],
 ) -> Result<(), Error>
-    // Commits nothing, so a crash leaves what it left before; after `Ok` the transaction is still
-    // open.
-    ensures writes { StatementFrame S.Store tx.old tx.new result }
     // After `Ok`, a represented older world whose marks these are is at version 3, with class 0 for
-    // each workunit; a queue stays.
-    ensures upgrades { Does S.Store tx.old tx.new result (UpgradesClasses rows.now) }
-    // After `Ok`, if the tables represent a world, the tables of other programs stay.
-    ensures spares { Does S.Store tx.old tx.new result SparesBeside }
+    // each workunit; a queue stays. If the tables represent a world, the tables of other programs
+    // stay. Commits nothing; after `Ok` the transaction is still open.
+    ensures { WritesSparing S.Store tx.old tx.new result (UpgradesClasses rows.now) SparesBeside }
 {
     make_classes(tx)?;
     fill_classes(tx, rows)?;
@@ -81,15 +78,11 @@ pub fn set_class<S: Alter>(
     workunit: u64,
     class: u32,
 ) -> Result<(), Error>
-    // Commits nothing, so a crash leaves what it left before; after `Ok` the transaction is still
-    // open.
-    ensures writes { StatementFrame S.Store tx.old tx.new result }
     // After `Ok`, in a represented world with classes the workunit of this number has this class.
-    // All else and a queue stay.
-    ensures sets { Does S.Store tx.old tx.new result
-        (ChangesClasses (with_set_class workunit class)) }
-    // After `Ok`, if its table is there, the tables of other programs stay.
-    ensures spares { Does S.Store tx.old tx.new result (Spares workunit_class_table) }
+    // All else and a queue stay. If its table is there, the tables of other programs stay. Commits
+    // nothing; after `Ok` the transaction is still open.
+    ensures { WritesSparing S.Store tx.old tx.new result
+        (ChangesClasses (with_set_class workunit class)) (Spares workunit_class_table) }
 {
     let workunit = signed(workunit)?;
     execute(tx, UPDATE_CLASS, params![workunit, class])
@@ -101,15 +94,11 @@ pub fn put_host_class<S: Alter>(
     host: &Name,
     class: u32,
 ) -> Result<(), Error>
-    // Commits nothing, so a crash leaves what it left before; after `Ok` the transaction is still
-    // open.
-    ensures writes { StatementFrame S.Store tx.old tx.new result }
     // After `Ok`, in a represented world with classes the host has this class; each other host, all
-    // else and a queue stay.
-    ensures sets { Does S.Store tx.old tx.new result
-        (ChangesClasses (with_classed_host host.now class)) }
-    // After `Ok`, if its table is there, the tables of other programs stay.
-    ensures spares { Does S.Store tx.old tx.new result (Spares host_class_table) }
+    // else and a queue stay. If its table is there, the tables of other programs stay. Commits
+    // nothing; after `Ok` the transaction is still open.
+    ensures { WritesSparing S.Store tx.old tx.new result
+        (ChangesClasses (with_classed_host host.now class)) (Spares host_class_table) }
 {
     execute(tx, DELETE_HOST_CLASS, params![host.as_str()])?;
     execute(tx, INSERT_HOST_CLASS, params![host.as_str(), class])

@@ -1,7 +1,7 @@
 //! The workunits that a pass is to change, found by the queue; and the marks by which it finds them, of all workunits.
 
 ghost use Rattle.std.specs.Prelude.{◌≡◌, ◌≤◌, ◌<◌, ◌+◌, ◌++◌, ◌-◌, ◌^◌, ◌∷◌, [], false, None, length, All, IfErr, IfOk, IfSome};
-ghost use Rattle.wu_core.specs.declared.fault.Fault.TheVariants.{Memory};
+ghost use Rattle.wu_core.specs.Reads.{OkOrWantsMemory};
 ghost use Rattle.wu_core.specs.declared.marks.Marks.{Marks};
 ghost use Rattle.wu_rules.specs.Marks.{marks, selects};
 ghost use Rattle.wu_store.specs.Due.{AreEarly, LoadsDue, numbers_left, FindsDue, FindsDueNumbers, FindsFirst, FindsNumbers, AreRowsOfStorable, FindsAllPresent, FindsMarks, FindsPresent, IsRowOfStorable};
@@ -72,9 +72,8 @@ pub(crate) fn next_after<S: Alter>(
 
 /// Adds the marks of a workunit, with its number.
 fn add_marks(rows: &mut Vec<(u64, Marks)>, workunit: &Workunit) -> Result<(), Fault>
-    ensures added { IfOk result (λ _. rows.new.items
-        ≡ rows.old.items ++ (workunit.now.number, marks workunit.now) ∷ []) }
-    ensures fault { IfErr result (λ fault. fault ≡ Memory) }
+    ensures { OkOrWantsMemory result
+        (λ _. rows.new.items ≡ rows.old.items ++ (workunit.now.number, marks workunit.now) ∷ []) }
 {
     rows.push((workunit.number, marks_of(workunit)))?;
     Ok(())

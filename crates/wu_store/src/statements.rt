@@ -6,16 +6,16 @@ ghost use Rattle.wu_store.specs.Changing.{import_of_change};
 ghost use Rattle.wu_store.specs.Classes.{ChangesClasses, SetsVersion};
 ghost use Rattle.wu_store.specs.Changes.{with_placed, without_instances, without_workunit, with_next, AddsArchived, AddsImport, AddsInstance, Credits, PutsGrants, WasFree};
 ghost use Rattle.wu_core.specs.declared.fault.Fault.TheVariants.{NotAProject};
-ghost use Rattle.wu_schema.specs.Asking.{Asks, FailsAll, IsSelect};
-ghost use Rattle.wu_schema.specs.Calls.{StatementFrame, Does, Changes, RunsText};
+ghost use Rattle.wu_schema.specs.Asking.{FailsAll, Queries};
+ghost use Rattle.wu_schema.specs.Calls.{StatementFrame, Does, RunsText};
 ghost use Rattle.wu_schema.specs.Made.{archived_table, import_table, project_table, result_table, workunit_table};
-ghost use Rattle.wu_schema.specs.Others.{Spares, SparesWith, tables_of_workunits};
+ghost use Rattle.wu_schema.specs.Others.{SparesWith, tables_of_workunits};
 ghost use Rattle.wu_schema.specs.Queue.{queue_table};
 ghost use Rattle.wu_schema.specs.Stored.{instance_cells, marks_cells, number, workunit_row};
 ghost use Rattle.wu_store.specs.Reads.{FindsAt, ReadsWorld};
-ghost use Rattle.wu_store.specs.Loading.{IsStoreFault, ServesUnlessFailed};
 ghost use Rattle.wu_store.specs.Queues.{ChangesQueue, first_marked, is_marked, KeepsQueue, KeepsWorld, marked_text, with_marks, without_marks, AnswersQueueIf};
 ghost use Rattle.wu_store.specs.Answers.{has_name, ShowsLast, was_archived};
+ghost use Rattle.wu_store.specs.Writes.{ChangesWorld, Writes};
 
 use crate::changes::Import;
 use crate::classes::insert_class;
@@ -112,18 +112,13 @@ pub fn ask_row<S: Alter>(
     sql: &str,
     params: &[ValueRef<'_>],
 ) -> Result<Option<Row>, Fault>
-    // A SELECT begins no transaction and commits nothing; except after `Memory` and `Broken` all is
-    // as before; `Broken` means a failed disk or closed connection.
-    ensures asks { IsSelect sql.now → Asks S.Store conn.old conn.new result }
-    // After a SELECT the connection is open, except after `Memory` and `Broken`.
-    ensures opens { IsSelect sql.now → ServesUnlessFailed S.Store conn.new result }
-    // After `Ok` it is the last row of the store's answer to the query, or `None` if there is no
-    // row.
-    ensures shows { ShowsLast S.Store conn.old conn.new result sql.now (bound params.now) }
-    // A fault is that of an error with which the store refuses the query.
-    ensures fails { FailsAll S.Store conn.old conn.new result sql.now (bound params.now) }
-    // A fault is `Memory`, `Broken` or `NotAProject`.
-    ensures told { IfErr result IsStoreFault }
+    // A SELECT begins no transaction and commits nothing. Except after `Memory` and `Broken` all is as
+    // before, and the connection is open; `Broken` means a failed disk or a closed connection. After
+    // `Ok` it is the last row of the store's answer to the query, or `None` if there is no row. A
+    // fault is `Memory`, `Broken` or `NotAProject`, that of an error with which the store refuses the
+    // query.
+    ensures { Queries S.Store conn.old conn.new result sql.now (bound params.now) ShowsLast
+        FailsAll }
 {
     let mut rows = query(conn, sql, params)?;
     Ok(rows.pop())
@@ -308,34 +303,24 @@ pub fn insert_instance<S: Alter>(
     n: u32,
     instance: &Instance,
 ) -> Result<(), Error>
-    // Commits nothing, so a crash leaves what it left before; after `Ok` the transaction is still
-    // open.
-    ensures writes { StatementFrame S.Store tx.old tx.new result }
     // After `Ok`, if the number is the next one of its workunit, each represented world has the
-    // instance after the others.
-    ensures puts { Does S.Store tx.old tx.new result (AddsInstance workunit n instance.now) }
-    // After `Ok` a queue beside a represented world has the same rows.
-    ensures queue { Does S.Store tx.old tx.new result KeepsQueue }
-    // After `Ok`, if its table is there, the tables of other programs stay.
-    ensures spares { Does S.Store tx.old tx.new result (Spares result_table) }
+    // instance after the others. A queue beside a represented world has the same rows. If its table
+    // is there, the tables of other programs stay. Commits nothing; after `Ok` the transaction is
+    // still open.
+    ensures { Writes S.Store tx.old tx.new result (AddsInstance workunit n instance.now) KeepsQueue
+        result_table }
 {
     run_instance(tx, INSERT_RESULT, workunit, n, instance)
 }
 
 /// Deletes the workunit of this number, if there is one, with its instances and its marks in the queue.
 pub fn delete_workunit<S: Alter>(tx: &mut Transaction<'_, S>, number: u64) -> Result<(), Error>
-    // Commits nothing, so a crash leaves what it left before; after `Ok` the transaction is still
-    // open.
-    ensures writes { StatementFrame S.Store tx.old tx.new result }
     // After `Ok`, each represented world lacks the workunit of this number with its instances, and
-    // nothing else.
-    ensures deletes { Changes S.Store tx.old tx.new result (without_workunit number) }
-    // After `Ok`, a queue beside a represented world lacks the marks of this number, and nothing
-    // else.
-    ensures queue { Does S.Store tx.old tx.new result
-        (ChangesQueue (without_marks number)) }
-    // After `Ok`, if its table is there, the tables of other programs stay.
-    ensures spares { Does S.Store tx.old tx.new result (Spares workunit_table) }
+    // nothing else. A queue beside a represented world lacks the marks of this number, and nothing
+    // else. If its table is there, the tables of other programs stay. Commits nothing; after `Ok`
+    // the transaction is still open.
+    ensures { Writes S.Store tx.old tx.new result (ChangesWorld (without_workunit number))
+        (ChangesQueue (without_marks number)) workunit_table }
 {
     let number = signed(number)?;
     execute(tx, DELETE_WORKUNIT, params![number])
@@ -386,16 +371,11 @@ pub fn insert_archived<S: Alter>(
     seq: u64,
     archived: &Archived,
 ) -> Result<(), Error>
-    // Commits nothing, so a crash leaves what it left before; after `Ok` the transaction is still
-    // open.
-    ensures writes { StatementFrame S.Store tx.old tx.new result }
     // After `Ok`, if the place is the next one, each represented world has the row after its other
-    // archived rows.
-    ensures puts { Does S.Store tx.old tx.new result (AddsArchived seq archived.now) }
-    // After `Ok` a queue beside a represented world has the same rows.
-    ensures queue { Does S.Store tx.old tx.new result KeepsQueue }
-    // After `Ok`, if its table is there, the tables of other programs stay.
-    ensures spares { Does S.Store tx.old tx.new result (Spares archived_table) }
+    // archived rows. A queue beside a represented world has the same rows. If its table is there,
+    // the tables of other programs stay. Commits nothing; after `Ok` the transaction is still open.
+    ensures { Writes S.Store tx.old tx.new result (AddsArchived seq archived.now) KeepsQueue
+        archived_table }
 {
     let seq = signed(seq)?;
     let number = signed(archived.number)?;
@@ -420,18 +400,13 @@ pub fn insert_import<S: Alter>(
     tx: &mut Transaction<'_, S>,
     import: &Import<'_>,
 ) -> Result<(), Error>
-    // Commits nothing, so a crash leaves what it left before; after `Ok` the transaction is still
-    // open.
-    ensures writes { StatementFrame S.Store tx.old tx.new result }
     // After `Ok`, each represented world has this import too, if it may be kept; it had none of
     // this kind and name. It may be kept if a template means a batch, and a first number means that
-    // a batch made workunits.
-    ensures puts { Does S.Store tx.old tx.new result
-        (AddsImport (import_of_change import.now)) }
-    // After `Ok` a queue beside a represented world has the same rows.
-    ensures queue { Does S.Store tx.old tx.new result KeepsQueue }
-    // After `Ok`, if its table is there, the tables of other programs stay.
-    ensures spares { Does S.Store tx.old tx.new result (Spares import_table) }
+    // a batch made workunits. A queue beside a represented world has the same rows. If its table is
+    // there, the tables of other programs stay. Commits nothing; after `Ok` the transaction is
+    // still open.
+    ensures { Writes S.Store tx.old tx.new result (AddsImport (import_of_change import.now))
+        KeepsQueue import_table }
 {
     let first_number = signed(import.first_number)?;
     execute(
@@ -486,32 +461,22 @@ pub fn insert_marks<S: Alter>(
     workunit: u64,
     marks: &Marks,
 ) -> Result<(), Error>
-    // Commits nothing, so a crash leaves what it left before; after `Ok` the transaction is still
-    // open.
-    ensures writes { StatementFrame S.Store tx.old tx.new result }
     // After `Ok`, a queue beside a represented world has these marks at the workunit's place by
-    // number.
-    ensures puts { Does S.Store tx.old tx.new result
-        (ChangesQueue (with_marks workunit marks.now)) }
-    // After `Ok`, a represented world beside a queue stays.
-    ensures stays { Does S.Store tx.old tx.new result KeepsWorld }
-    // After `Ok`, if its table is there, the tables of other programs stay.
-    ensures spares { Does S.Store tx.old tx.new result (Spares queue_table) }
+    // number. A represented world beside a queue stays. If its table is there, the tables of other
+    // programs stay. Commits nothing; after `Ok` the transaction is still open.
+    ensures { Writes S.Store tx.old tx.new result (ChangesQueue (with_marks workunit marks.now))
+        KeepsWorld queue_table }
 {
     run_marks(tx, INSERT_MARKS, workunit, marks)
 }
 
 /// Sets the project's next number.
 pub fn set_next_number<S: Alter>(tx: &mut Transaction<'_, S>, next_number: u64) -> Result<(), Error>
-    // Commits nothing, so a crash leaves what it left before; after `Ok` the transaction is still
-    // open.
-    ensures writes { StatementFrame S.Store tx.old tx.new result }
-    // After `Ok`, each represented world has this next number, and nothing else of it changes.
-    ensures sets { Changes S.Store tx.old tx.new result (with_next next_number) }
-    // After `Ok` a queue beside a represented world has the same rows.
-    ensures queue { Does S.Store tx.old tx.new result KeepsQueue }
-    // After `Ok`, if its table is there, the tables of other programs stay.
-    ensures spares { Does S.Store tx.old tx.new result (Spares project_table) }
+    // After `Ok`, each represented world has this next number, and nothing else of it changes. A
+    // queue beside a represented world has the same rows. If its table is there, the tables of
+    // other programs stay. Commits nothing; after `Ok` the transaction is still open.
+    ensures { Writes S.Store tx.old tx.new result (ChangesWorld (with_next next_number)) KeepsQueue
+        project_table }
 {
     let next_number = signed(next_number)?;
     execute(tx, UPDATE_NEXT_NUMBER, params![next_number])
@@ -519,16 +484,11 @@ pub fn set_next_number<S: Alter>(tx: &mut Transaction<'_, S>, next_number: u64) 
 
 /// Sets the version of the project's schema.
 pub fn set_version<S: Alter>(tx: &mut Transaction<'_, S>, version: u64) -> Result<(), Error>
-    // Commits nothing, so a crash leaves what it left before; after `Ok` the transaction is still
-    // open.
-    ensures writes { StatementFrame S.Store tx.old tx.new result }
     // After `Ok` for version 3, a represented older world beside tables with class 0 for each of
-    // its workunits is of that version.
-    ensures sets { Does S.Store tx.old tx.new result (SetsVersion version) }
-    // After `Ok` a queue beside a represented world has the same rows.
-    ensures queue { Does S.Store tx.old tx.new result KeepsQueue }
-    // After `Ok`, if its table is there, the tables of other programs stay.
-    ensures spares { Does S.Store tx.old tx.new result (Spares project_table) }
+    // its workunits is of that version. A queue beside a represented world has the same rows. If
+    // its table is there, the tables of other programs stay. Commits nothing; after `Ok` the
+    // transaction is still open.
+    ensures { Writes S.Store tx.old tx.new result (SetsVersion version) KeepsQueue project_table }
 {
     let version = signed(version)?;
     execute(tx, UPDATE_VERSION, params![version])

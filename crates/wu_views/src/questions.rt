@@ -1,11 +1,9 @@
 //! The question of the summary: a count.
 
-ghost use Rattle.std.specs.Prelude.{IfErr};
 ghost use Rattle.sqlite.specs.Order.{column};
 ghost use Rattle.sqlite.specs.Values.{bound};
 ghost use Rattle.wu_views.specs.Counting.{FailsCount, ReadsCount, ShowsCount};
-ghost use Rattle.wu_schema.specs.Asking.{Asks, IsSelect};
-ghost use Rattle.wu_store.specs.Loading.{IsStoreFault, ServesUnlessFailed};
+ghost use Rattle.wu_schema.specs.Asking.{Queries};
 
 use sqlite::types::ValueRef;
 use sqlite::{Alter, Connection, Row};
@@ -33,19 +31,13 @@ pub fn ask_count<S: Alter>(
     sql: &str,
     params: &[ValueRef<'_>],
 ) -> Result<u64, Fault>
-    // A SELECT begins no transaction and commits nothing; except after `Memory` and `Broken` all is
-    // as before; `Broken` means a failed disk or closed connection.
-    ensures asks { IsSelect sql.now → Asks S.Store conn.old conn.new result }
-    // After a SELECT the connection is open, except after `Memory` and `Broken`.
-    ensures opens { IsSelect sql.now → ServesUnlessFailed S.Store conn.new result }
-    // After `Ok` it is the number that the store's answer to the question counts, where that is one
-    // count.
-    ensures shows { ShowsCount S.Store conn.old conn.new result sql.now (bound params.now) }
-    // A fault is out of memory, or that of an error of the question, or means that the answer is no
-    // count.
-    ensures fails { FailsCount S.Store conn.old conn.new result sql.now (bound params.now) }
-    // A fault is `Memory`, `Broken` or `NotAProject`.
-    ensures told { IfErr result IsStoreFault }
+    // A SELECT begins no transaction and commits nothing. Except after `Memory` and `Broken` all is as
+    // before, and the connection is open; `Broken` means a failed disk or a closed connection. After
+    // `Ok` it is the number that the store's answer to the question counts, where that is one count. A
+    // fault is `Memory`, `Broken` or `NotAProject`: it is out of memory, or that of an error of the
+    // question, or means that the answer is no count.
+    ensures { Queries S.Store conn.old conn.new result sql.now (bound params.now) ShowsCount
+        FailsCount }
 {
     let row = ask_row(conn, sql, params)?;
     match row {

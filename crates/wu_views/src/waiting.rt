@@ -1,6 +1,7 @@
 //! What waits for the passes of a project.
 
-ghost use Rattle.std.specs.Prelude.{◌≡◌, ◌++◌, IfErr, IfOk, map, ⊤};
+ghost use Rattle.std.specs.Prelude.{◌≡◌, ◌++◌, IfOk, map, ⊤};
+ghost use Rattle.wu_core.specs.Reads.{OkOrWantsMemory};
 ghost use Rattle.wu_core.specs.declared.fault.Fault.TheVariants.{Memory};
 ghost use Rattle.wu_core.specs.Storable.{AreStorable};
 ghost use Rattle.wu_views.specs.Waiting.{count_lines, due_count, FindsDueLines, FindsStatusLines};
@@ -113,9 +114,8 @@ fn with_counts(
     deadlines: Deadlines,
     hosts: Vec<HostFailures>,
 ) -> Result<Vec<StatusLine>, Fault>
-    ensures ok { IfOk result (λ found. found.items
-        ≡ lines.items ++ count_lines decisions deadlines ++ map Host hosts.items) }
-    ensures memory { IfErr result (λ fault. fault ≡ Memory) }
+    ensures { OkOrWantsMemory result (λ found. found.items ≡ lines.items ++ count_lines decisions
+        deadlines ++ map Host hosts.items) }
 {
     let mut lines = lines;
     lines.push(StatusLine::Undecided(decisions.undecided))?;

@@ -8,4 +8,4 @@ returns g c =
     let P : Vec ℕ Global → Type 0 = λ bytes. IfSome (g.R.Read.remaining c.args.reader) (λ all. bytes.items ≡ take (read_at_most c.args.most) all) in
     let so : OnOk c.read_to_end-read.result (P c.read_to_end-read.new.buf) = search rules in
     let known = read_known P c.read_to_end-read.result c.read_to_end-read.new.buf c.read_whole.result c.read_whole.ensures so in
-    record { bytes = known.0; fault = known.1 }
+    record { ok = known.0; fault = known.1 }

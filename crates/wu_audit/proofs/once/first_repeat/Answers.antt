@@ -5,7 +5,7 @@ use Rattle.wu_audit.proofs.SeenLemmas.{seen_again, seen_more, seen_none}
 use Rattle.wu_audit.proofs.once.first_repeat.Goals as goal
 
 pub loop-place-init : goal.loop-place-init
-loop-place-init g c = seen_none _ _ _ (λ q. ap (list_any (g.K.PartialEq.eq q)) c.new-seen.ensures.empty)
+loop-place-init g c = seen_none _ _ _ (λ q. ap (list_any (g.K.PartialEq.eq q)) c.in_ok-seen.ensures.empty)
 
 pub loop-place-preserved : goal.loop-place-preserved
 loop-place-preserved g c =

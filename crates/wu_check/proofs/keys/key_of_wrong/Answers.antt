@@ -22,12 +22,12 @@ pub import_key-requires : goal.import_key-requires
 import_key-requires c = row_within c.args.loaded.now c.args.wrong table.Import c.in-Some.place c.requires (sym c.table.ensures ∙ c.in-Import.is) (sym c.place.ensures ∙ c.in-Some.is)
 
 pub returns-in_default : goal.returns-in_default
-returns-in_default c = record { key = key_of_none c.args.loaded.now c.args.wrong (sym c.place.ensures ∙ c.in_default.is); memory = tt }
+returns-in_default c = record { ok = key_of_none c.args.loaded.now c.args.wrong (sym c.place.ensures ∙ c.in_default.is); fault = tt }
 
 pub returns-in-Project : goal.returns-in-Project
 returns-in-Project c = record {
-  key = let none = row_within c.args.loaded.now c.args.wrong table.Project c.in-Some.place c.requires (sym c.table.ensures ∙ c.in-Project.is) (sym c.place.ensures ∙ c.in-Some.is) in absurd (omega (arith, none));
-  memory = tt;
+  ok = let none = row_within c.args.loaded.now c.args.wrong table.Project c.in-Some.place c.requires (sym c.table.ensures ∙ c.in-Project.is) (sym c.place.ensures ∙ c.in-Some.is) in absurd (omega (arith, none));
+  fault = tt;
 }
 
 pub returns-in-Workunit : goal.returns-in-Workunit
@@ -36,24 +36,24 @@ returns-in-Workunit c =
     let read : Workunit = get_or c.workunits.result.now place c.index-workunits-place.result in
     let within = subst (λ (ws : List Workunit). place < length ws) (sym c.workunits.ensures) (row_within c.args.loaded.now c.args.wrong table.Workunit place c.requires (sym c.table.ensures ∙ c.in-Workunit.is) (sym c.place.ensures ∙ c.in-Some.is)) in
     let there = subst (λ (ws : List Workunit). slice_get ws place ≡ Some read) c.workunits.ensures (slice_get-get_or c.workunits.result.now place c.index-workunits-place.result within) in
-    record { key = key_at c.args.loaded.now c.args.wrong table.Workunit place (key.Workunit read.number) (sym c.table.ensures ∙ c.in-Workunit.is) (sym c.place.ensures ∙ c.in-Some.is) (read, (place, refl, there), refl); memory = tt }
+    record { ok = key_at c.args.loaded.now c.args.wrong table.Workunit place (key.Workunit read.number) (sym c.table.ensures ∙ c.in-Workunit.is) (sym c.place.ensures ∙ c.in-Some.is) (read, (place, refl, there), refl); fault = tt }
 
 pub returns-in-Grant : goal.returns-in-Grant
 returns-in-Grant c = record {
-  key = key_at c.args.loaded.now c.args.wrong table.Grant c.in-Some.place (key.Grant c.place_from_one.result) (sym c.table.ensures ∙ c.in-Grant.is) (sym c.place.ensures ∙ c.in-Some.is) (c.in-Some.place, refl, ap key.Grant c.place_from_one.ensures);
-  memory = tt;
+  ok = key_at c.args.loaded.now c.args.wrong table.Grant c.in-Some.place (key.Grant c.place_from_one.result) (sym c.table.ensures ∙ c.in-Grant.is) (sym c.place.ensures ∙ c.in-Some.is) (c.in-Some.place, refl, ap key.Grant c.place_from_one.ensures);
+  fault = tt;
 }
 
 pub returns-in-Archived : goal.returns-in-Archived
 returns-in-Archived c = record {
-  key = key_at c.args.loaded.now c.args.wrong table.Archived c.in-Some.place (key.Archived c.place_from_one-in-Archived.result) (sym c.table.ensures ∙ c.in-Archived.is) (sym c.place.ensures ∙ c.in-Some.is) (c.in-Some.place, refl, ap key.Archived c.place_from_one-in-Archived.ensures);
-  memory = tt;
+  ok = key_at c.args.loaded.now c.args.wrong table.Archived c.in-Some.place (key.Archived c.place_from_one-in-Archived.result) (sym c.table.ensures ∙ c.in-Archived.is) (sym c.place.ensures ∙ c.in-Some.is) (c.in-Some.place, refl, ap key.Archived c.place_from_one-in-Archived.ensures);
+  fault = tt;
 }
 
 pub returns-in-Import : goal.returns-in-Import
 returns-in-Import c = record {
-  key = IfOk-weaker c.import_key.result _ _ (λ k is. key_at c.args.loaded.now c.args.wrong table.Import c.in-Some.place k (sym c.table.ensures ∙ c.in-Import.is) (sym c.place.ensures ∙ c.in-Some.is) is) c.import_key.ensures.key;
-  memory = c.import_key.ensures.memory;
+  ok = IfOk-weaker c.import_key.result _ _ (λ k is. key_at c.args.loaded.now c.args.wrong table.Import c.in-Some.place k (sym c.table.ensures ∙ c.in-Import.is) (sym c.place.ensures ∙ c.in-Some.is) is) c.import_key.ensures.ok;
+  fault = c.import_key.ensures.fault;
 }
 
 pub class_key-requires : goal.class_key-requires
@@ -61,6 +61,6 @@ class_key-requires c = row_within c.args.loaded.now c.args.wrong table.HostClass
 
 pub returns-in-HostClass : goal.returns-in-HostClass
 returns-in-HostClass c = record {
-  key = IfOk-weaker c.class_key.result _ _ (λ k is. key_at c.args.loaded.now c.args.wrong table.HostClass c.in-Some.place k (sym c.table.ensures ∙ c.in-HostClass.is) (sym c.place.ensures ∙ c.in-Some.is) is) c.class_key.ensures.key;
-  memory = c.class_key.ensures.memory;
+  ok = IfOk-weaker c.class_key.result _ _ (λ k is. key_at c.args.loaded.now c.args.wrong table.HostClass c.in-Some.place k (sym c.table.ensures ∙ c.in-HostClass.is) (sym c.place.ensures ∙ c.in-Some.is) is) c.class_key.ensures.ok;
+  fault = c.class_key.ensures.fault;
 }

@@ -29,7 +29,7 @@ returns g c = record {
       let still : Refines (state g.S.Store c.check_names.new.conn).now world = asks_stands g.S.Store _ _ c.in_ok-check_names.field-0 c.in_ok-check_names.ensures.asks before world stands in
       let free : first_taken world c.args.jobs ≡ None = rw c.as_slice.ensures at (c.in_ok-check_names.ensures.found before world stands) in
       let next_is = c.in_ok-next.ensures.reads.found clean world still in
-      jobs_planned world is project c.args.batch.now.name c.args.batch.now.template c.args.batch.now.file c.args.params c.args.jobs _ c.new_batch.result new template_is file_is free next_is (search rules) c.new_batch.ensures.plan c.new_batch.ensures.fault;
+      jobs_planned world is project c.args.batch.now.name c.args.batch.now.template c.args.batch.now.file c.args.params c.args.jobs _ c.new_batch.result new template_is file_is free next_is (search rules) c.new_batch.ensures.ok c.new_batch.ensures.fault;
   unrefused = λ clean world stands project limit. memory_unrefused c.new_batch.result c.new_batch.ensures.fault;
 }
 

@@ -11,5 +11,5 @@ returns-clause-plan c =
     let pushed : c.push.new.self.items ≡ Replace c.in_ok-was.was' c.cancel.new.workunit ∷ [] = search rules in record {
       undecided = search rules;
       answer = ap answer.Cancelled (c.in_ok-name.ensures ∙ ap (λ (v : Workunit). v.name) image ∙ same_name c.args.workunit);
-      changes = pushed ∙ (λ i. Replace (c.in_ok-was.ensures.copy i) (image i) ∷ []);
+      changes = pushed ∙ (λ i. Replace (c.in_ok-was.ensures.ok i) (image i) ∷ []);
     }

@@ -33,6 +33,6 @@ returns-in_ok-read_classes-in-None g c = record {
       let fresh : import_of world given ≡ None = rw c.in-None.is at earlier in
       let rows_are : classes_of_file c.args.file.now.file ≡ Ok c.in_ok-read_classes-in-None.field-0 = read_ok _ _ (rw c.as_slice.ensures at c.in_ok-read_classes-in-None.ensures.exact) in
       classes_planned world (AskClasses c.args.file.now.name c.args.file.now.file) given (asked_classes world is c.args.file.now.name c.args.file.now.file) refl c.in_ok-read_classes-in-None.field-0 (classed world is) fresh
-      (ap (classes_read given world) rows_are) (λ came. came) c.new_classes.result (rw c.file_source-source.ensures at c.new_classes.ensures.plan) c.new_classes.ensures.fault)
+      (ap (classes_read given world) rows_are) (λ came. came) c.new_classes.result (rw c.file_source-source.ensures at c.new_classes.ensures.ok) c.new_classes.ensures.fault)
       (λ world stands earlier can. memory_unrefused c.new_classes.result c.new_classes.ensures.fault);
 }

@@ -11,7 +11,7 @@ returns g c =
     let r = c.new_file.result in
     let memory = c.new_file.ensures.fault in
     reads_also g.S.Store _ _ c.in_ok-left.left r (memory_unbroken r memory) (memory_told r memory) c.in_ok-left.ensures.reads (λ world stands found known.
-    file_planned (rule_in g.R.FileRow.rule g.R.FileRow.class_in world.classes) (given_of c.args.source.now) c.args.rows (state g.S.Store c.args.conn.now).now world stands known c.in_ok-left.left (found known) r c.new_file.ensures.plan memory) (λ world stands found can. memory_unrefused r memory)
+    file_planned (rule_in g.R.FileRow.rule g.R.FileRow.class_in world.classes) (given_of c.args.source.now) c.args.rows (state g.S.Store c.args.conn.now).now world stands known c.in_ok-left.left (found known) r c.new_file.ensures.ok memory) (λ world stands found can. memory_unrefused r memory)
 
 pub returns-in_err-left : goal.returns-in_err-left
 returns-in_err-left g c =

@@ -18,5 +18,5 @@ pub returns : goal.returns
 returns g c =
     reads_also g.S.Store _ _ c.in_ok-place.place c.with_grants.result (memory_unbroken c.with_grants.result c.with_grants.ensures.fault) (memory_told c.with_grants.result c.with_grants.ensures.fault) (reads_if (λ some. tt) c.in_ok-place.ensures.reads) (λ world stands earlier. let grants = c.args.grants.items in
     let some : 0 < length grants = search rules in
-    ok_on c.with_grants.result _ _ (has_grants world c.in_ok-place.place grants c.args.changes.now.items c.with_grants.new.changes.items earlier some) c.with_grants.ensures.added)
+    ok_on c.with_grants.result _ _ (has_grants world c.in_ok-place.place grants c.args.changes.now.items c.with_grants.new.changes.items earlier some) c.with_grants.ensures.ok)
     (λ world stands earlier can. memory_unrefused c.with_grants.result c.with_grants.ensures.fault)

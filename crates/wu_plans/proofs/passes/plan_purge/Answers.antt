@@ -36,7 +36,7 @@ returns g c = record {
     found = λ clean world stands is project. let counted : c.len-count.result ≡ length c.in_ok-numbers.numbers.items = search rules in
         let numbers = c.in_ok-numbers.ensures.reads.found clean world (classed world is, stands) in
         let planned = purge_planned (state g.S.Store c.args.conn.now).now world stands.refines is c.args.ask.now c.requires.purge c.requires.right c.in_ok-numbers.numbers.items numbers c.len-count.result counted in
-        subst (λ cs. Plans world (asked c.args.ask.now) (answer.Passed c.args.ask.now.pass c.len-count.result) cs) (sym c.in_ok-changes.ensures.all) planned;
+        subst (λ cs. Plans world (asked c.args.ask.now) (answer.Passed c.args.ask.now.pass c.len-count.result) cs) (sym c.in_ok-changes.ensures.ok) planned;
     unrefused = search rules;
   };
 }

@@ -10,7 +10,7 @@ returns g c = record {
   opens = λ never. absurd never;
   fault = search rules;
   found = λ clean world stands is project are right. let counted : c.len-count.result ≡ length c.args.taken.items = search rules in
-      pass_planned (state g.S.Store c.args.conn.now).now world stands is c.args.ask.now right c.args.taken.items are c.in_ok-handled.handled c.in_ok-handled.ensures.all
+      pass_planned (state g.S.Store c.args.conn.now).now world stands is c.args.ask.now right c.args.taken.items are c.in_ok-handled.handled c.in_ok-handled.ensures.ok
       c.in_ok-changes.changes.items (c.in_ok-changes.ensures.found clean world stands) c.len-count.result counted;
   unrefused = search rules;
 }

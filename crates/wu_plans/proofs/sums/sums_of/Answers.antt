@@ -25,7 +25,7 @@ loop-grant-preserved c =
     let at : (d : Bor Grant) → get_or ordered i d ≡ one = λ d. get_or_default ordered i d one low ∙ first in
     let more : take i ordered ++ one ∷ [] ≡ take (i + 1) ordered = ap (λ x. take i ordered ++ x ∷ []) (sym (at one)) ∙ sym (take_more ordered i one low) in
     let in_order = subst (IsSorted (λ (a b : Bor Grant). order a.now.host b.now.host)) (sym c.as_slice-ordered.ensures.value) c.in_ok-sorted.ensures.sorted in
-    let added = c.in_ok-add.ensures.added in (
+    let added = c.in_ok-add.ensures.ok in (
       subst (AreSums c.add.new.sums.items) (sym (map-append (λ (g : Bor Grant). g.now) (take i ordered) (one ∷ [])) ∙ ap (map (λ (g : Bor Grant). g.now)) more) (added.sums (map (λ (g : Bor Grant). g.now) (take i ordered)) sums),
       added.few few (subst (λ (g : Bor Grant). AreUpTo g.now.host c.loop-grant.sums.items) (at one) (up_to i one (omega arith) low)),
       λ j d le high. added.up_to (get_or ordered j d).now.host (subst (λ (g : Bor Grant). order (get_or ordered j d).now.host g.now.host ≢ Less) (at d) (no_earlier ordered in_order i j d (omega (arith, le)) high)),

@@ -14,4 +14,4 @@ pub returns-clause-added : goal.returns-clause-added
 returns-clause-added c =
     let grants = c.args.grants.items in
     let some : 0 < length grants = search rules in
-    ok_on c.with_grants.result _ _ (has_grants empty_world 1 grants c.args.changes.now.items c.with_grants.new.changes.items refl some) c.with_grants.ensures.added
+    ok_on c.with_grants.result _ _ (has_grants empty_world 1 grants c.args.changes.now.items c.with_grants.new.changes.items refl some) c.with_grants.ensures.ok

@@ -14,4 +14,4 @@ loop-import-preserved c =
     let low : i < length imports = omega (arith, c.loop-import-test.true) in
     let at : get_or imports i one ≡ one = search rules in
     let grown : c.push.new.self.items ≡ c.loop-import.changes.items ++ Keep c.in_ok-kept_of.field-0 ∷ [] = search rules in
-    kept_more c.args.changes.now.items c.loop-import.changes.items c.push.new.self.items imports i one c.in_ok-kept_of.field-0 low at c.loop-import.invariant c.in_ok-kept_of.ensures.kept grown
+    kept_more c.args.changes.now.items c.loop-import.changes.items c.push.new.self.items imports i one c.in_ok-kept_of.field-0 low at c.loop-import.invariant c.in_ok-kept_of.ensures.ok grown

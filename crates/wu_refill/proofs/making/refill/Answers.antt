@@ -19,10 +19,10 @@ pub returns-clause-done : goal.returns-clause-done
 returns-clause-done g c clean =
     let same : world_of_parts c.into_parts-parts.result.0 c.as_slice.result.now ≡ c.args.world = ap (world_of_parts c.into_parts-parts.result.0) c.as_slice.ensures.value ∙ c.into_parts-parts.ensures in
     done_of_empty c.args.world c.in_ok-changes.changes.items c.as_slice-2.result.now c.as_slice-2.ensures.value (subst (λ (w : World). MakesTheWorld w c.in_ok-changes.changes.items) same c.in_ok-changes.ensures.makes)
-    c.transact.result (state g.S.Store c.args.conn.now) (state g.S.Store c.transact.new.conn) (c.transact.ensures.done clean)
+    c.transact.result (state g.S.Store c.args.conn.now) (state g.S.Store c.transact.new.conn) (c.transact.ensures.transacts.done clean)
 
 pub returns-clause-crash : goal.returns-clause-crash
 returns-clause-crash g c =
     let same : world_of_parts c.into_parts-parts.result.0 c.as_slice.result.now ≡ c.args.world = ap (world_of_parts c.into_parts-parts.result.0) c.as_slice.ensures.value ∙ c.into_parts-parts.ensures in
     crash_of_empty c.args.world c.in_ok-changes.changes.items c.as_slice-2.result.now c.as_slice-2.ensures.value (subst (λ (w : World). MakesTheWorld w c.in_ok-changes.changes.items) same c.in_ok-changes.ensures.makes)
-    (state g.S.Store c.args.conn.now) (state g.S.Store c.transact.new.conn) c.transact.ensures.crash
+    (state g.S.Store c.args.conn.now) (state g.S.Store c.transact.new.conn) c.transact.ensures.transacts.crash

@@ -9,12 +9,7 @@ returns g c =
     let it = c.transact.ensures in
     let breaks = breaks_open s old new c.schema-schema.ensures.live c.transact.result it.breaks in
     record {
-      mode = it.mode;
-      done = it.done;
-      refused = it.refused;
-      undone = it.undone;
-      crash = it.crash;
-      told = it.told;
+      transacts = it.transacts;
       breaks = breaks;
-      taken = refuses_taken s old new c.transact.result it.done it.told breaks;
+      taken = refuses_taken s old new c.transact.result it.transacts.done it.transacts.told breaks;
     }

@@ -5,30 +5,26 @@ use Rattle.wu_schema.proofs.creation.create_records.Goals as goal
 
 pub returns-in_err-execute : goal.returns-in_err-execute
 returns-in_err-execute g c =
-    let one = makes_one grant_made c.in_err-execute.ensures.writes c.in_err-execute.ensures.ran c.in_err-execute.ensures.refused in
-    let it = stopped (MakesTables record_tables) one c.from_residual.result c.from_residual.ensures.1 in
-    record { writes = it.writes; makes = it.makes; breaks = it.breaks tt }
+    let one = makes_one grant_made c.in_err-execute.ensures in
+    stopped (MakesTables record_tables) one c.from_residual.result c.from_residual.ensures.1
 
 pub returns-in_err-execute-2 : goal.returns-in_err-execute-2
 returns-in_err-execute-2 g c =
-    let one = makes_one grant_made c.in_ok-execute.ensures.writes c.in_ok-execute.ensures.ran c.in_ok-execute.ensures.refused in
-    let two = makes_one host_made c.in_err-execute-2.ensures.writes c.in_err-execute-2.ensures.ran c.in_err-execute-2.ensures.refused in
-    let it = stopped (MakesTables record_tables) (made_then (λ old mid made over. tt) one two) c.from_residual-in_err-execute-2.result c.from_residual-in_err-execute-2.ensures.1 in
-    record { writes = it.writes; makes = it.makes; breaks = it.breaks tt }
+    let one = makes_one grant_made c.in_ok-execute.ensures in
+    let two = makes_one host_made c.in_err-execute-2.ensures in
+    stopped (MakesTables record_tables) (made_then (λ old mid made over. tt) one two) c.from_residual-in_err-execute-2.result c.from_residual-in_err-execute-2.ensures.1
 
 pub returns-in_err-execute-3 : goal.returns-in_err-execute-3
 returns-in_err-execute-3 g c =
-    let one = makes_one grant_made c.in_ok-execute.ensures.writes c.in_ok-execute.ensures.ran c.in_ok-execute.ensures.refused in
-    let two = makes_one host_made c.in_ok-execute-2.ensures.writes c.in_ok-execute-2.ensures.ran c.in_ok-execute-2.ensures.refused in
-    let three = makes_one archived_made c.in_err-execute-3.ensures.writes c.in_err-execute-3.ensures.ran c.in_err-execute-3.ensures.refused in
-    let it = stopped (MakesTables record_tables) (made_then (λ old mid made over. tt) one (made_then (λ old mid made over. tt) two three)) c.from_residual-in_err-execute-3.result c.from_residual-in_err-execute-3.ensures.1 in
-    record { writes = it.writes; makes = it.makes; breaks = it.breaks tt }
+    let one = makes_one grant_made c.in_ok-execute.ensures in
+    let two = makes_one host_made c.in_ok-execute-2.ensures in
+    let three = makes_one archived_made c.in_err-execute-3.ensures in
+    stopped (MakesTables record_tables) (made_then (λ old mid made over. tt) one (made_then (λ old mid made over. tt) two three)) c.from_residual-in_err-execute-3.result c.from_residual-in_err-execute-3.ensures.1
 
 pub returns : goal.returns
 returns g c =
-    let one = makes_one grant_made c.in_ok-execute.ensures.writes c.in_ok-execute.ensures.ran c.in_ok-execute.ensures.refused in
-    let two = makes_one host_made c.in_ok-execute-2.ensures.writes c.in_ok-execute-2.ensures.ran c.in_ok-execute-2.ensures.refused in
-    let three = makes_one archived_made c.in_ok-execute-3.ensures.writes c.in_ok-execute-3.ensures.ran c.in_ok-execute-3.ensures.refused in
-    let four = last_one (makes_one import_made c.execute-4.ensures.writes c.execute-4.ensures.ran c.execute-4.ensures.refused) in
-    let it = made_then (λ old mid made over. tt) one (made_then (λ old mid made over. tt) two (made_then (λ old mid made over. tt) three four)) in
-    record { writes = it.writes; makes = it.makes; breaks = it.breaks tt }
+    let one = makes_one grant_made c.in_ok-execute.ensures in
+    let two = makes_one host_made c.in_ok-execute-2.ensures in
+    let three = makes_one archived_made c.in_ok-execute-3.ensures in
+    let four = last_one (makes_one import_made c.execute-4.ensures) in
+    made_then (λ old mid made over. tt) one (made_then (λ old mid made over. tt) two (made_then (λ old mid made over. tt) three four))

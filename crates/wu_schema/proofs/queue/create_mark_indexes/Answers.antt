@@ -7,21 +7,18 @@ use Rattle.wu_schema.proofs.queue.create_mark_indexes.Goals as goal
 
 pub returns-in_err-execute : goal.returns-in_err-execute
 returns-in_err-execute g c =
-    let one = indexes_one validate_made c.in_err-execute.ensures.writes c.in_err-execute.ensures.ran c.in_err-execute.ensures.refused in
-    let it = stopped (MakesIndexes queue_table mark_indexes) one c.from_residual.result c.from_residual.ensures.1 in
-    record { writes = it.writes; makes = it.makes; breaks = it.breaks }
+    let one = indexes_one validate_made c.in_err-execute.ensures in
+    stopped (MakesIndexes queue_table mark_indexes) one c.from_residual.result c.from_residual.ensures.1
 
 pub returns-in_err-execute-2 : goal.returns-in_err-execute-2
 returns-in_err-execute-2 g c =
-    let one = indexes_one validate_made c.in_ok-execute.ensures.writes c.in_ok-execute.ensures.ran c.in_ok-execute.ensures.refused in
-    let two = indexes_one assimilate_made c.in_err-execute-2.ensures.writes c.in_err-execute-2.ensures.ran c.in_err-execute-2.ensures.refused in
-    let it = stopped (MakesIndexes queue_table mark_indexes) (indexes_then (queue_validate ∷ []) (queue_assimilate ∷ []) one two) c.from_residual-in_err-execute-2.result c.from_residual-in_err-execute-2.ensures.1 in
-    record { writes = it.writes; makes = it.makes; breaks = it.breaks }
+    let one = indexes_one validate_made c.in_ok-execute.ensures in
+    let two = indexes_one assimilate_made c.in_err-execute-2.ensures in
+    stopped (MakesIndexes queue_table mark_indexes) (indexes_then (queue_validate ∷ []) (queue_assimilate ∷ []) one two) c.from_residual-in_err-execute-2.result c.from_residual-in_err-execute-2.ensures.1
 
 pub returns : goal.returns
 returns g c =
-    let one = indexes_one validate_made c.in_ok-execute.ensures.writes c.in_ok-execute.ensures.ran c.in_ok-execute.ensures.refused in
-    let two = indexes_one assimilate_made c.in_ok-execute-2.ensures.writes c.in_ok-execute-2.ensures.ran c.in_ok-execute-2.ensures.refused in
-    let three = indexes_one delete_made c.execute-3.ensures.writes c.execute-3.ensures.ran c.execute-3.ensures.refused in
-    let it = indexes_then (queue_validate ∷ queue_assimilate ∷ []) (queue_delete ∷ []) (indexes_then (queue_validate ∷ []) (queue_assimilate ∷ []) one two) three in
-    record { writes = it.writes; makes = it.makes; breaks = it.breaks }
+    let one = indexes_one validate_made c.in_ok-execute.ensures in
+    let two = indexes_one assimilate_made c.in_ok-execute-2.ensures in
+    let three = indexes_one delete_made c.execute-3.ensures in
+    indexes_then (queue_validate ∷ queue_assimilate ∷ []) (queue_delete ∷ []) (indexes_then (queue_validate ∷ []) (queue_assimilate ∷ []) one two) three

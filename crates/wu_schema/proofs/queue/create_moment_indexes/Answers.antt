@@ -7,13 +7,11 @@ use Rattle.wu_schema.proofs.queue.create_moment_indexes.Goals as goal
 
 pub returns-in_err-execute : goal.returns-in_err-execute
 returns-in_err-execute g c =
-    let one = indexes_one wake_made c.in_err-execute.ensures.writes c.in_err-execute.ensures.ran c.in_err-execute.ensures.refused in
-    let it = stopped (MakesIndexes queue_table moment_indexes) one c.from_residual.result c.from_residual.ensures.1 in
-    record { writes = it.writes; makes = it.makes; breaks = it.breaks }
+    let one = indexes_one wake_made c.in_err-execute.ensures in
+    stopped (MakesIndexes queue_table moment_indexes) one c.from_residual.result c.from_residual.ensures.1
 
 pub returns : goal.returns
 returns g c =
-    let one = indexes_one wake_made c.in_ok-execute.ensures.writes c.in_ok-execute.ensures.ran c.in_ok-execute.ensures.refused in
-    let two = indexes_one purge_made c.execute-2.ensures.writes c.execute-2.ensures.ran c.execute-2.ensures.refused in
-    let it = indexes_then (queue_wake ∷ []) (queue_purge ∷ []) one two in
-    record { writes = it.writes; makes = it.makes; breaks = it.breaks }
+    let one = indexes_one wake_made c.in_ok-execute.ensures in
+    let two = indexes_one purge_made c.execute-2.ensures in
+    indexes_then (queue_wake ∷ []) (queue_purge ∷ []) one two

@@ -7,7 +7,10 @@ use Rattle.wu_schema.proofs.transaction.transact.Goals as goal
 pub returns-in-Ok : goal.returns-in-Ok
 returns-in-Ok g c =
     let run = c.in-Ok.ensures in
-    record { mode = run.mode; done = run.done; refused = λ clean. tt; undone = λ clean. tt; told = tt; crash = run.crash; breaks = λ over. tt }
+    record {
+      transacts = record { mode = run.mode; done = run.done; refused = λ clean. tt; undone = λ clean. tt; told = tt; crash = run.crash };
+      breaks = λ over. tt;
+    }
 
 pub returns-in-Err-Statement : goal.returns-in-Err-Statement
 returns-in-Err-Statement g c =
@@ -21,12 +24,7 @@ returns-in-Err-Statement g c =
     let told = c.fault_after.ensures in
     let it = probed s laws.settled laws.stays makes old mid new run.mode run.undone run.crash told.crash c.fault_after.result told.mode told.told told.serves told.back in
     record {
-      mode = it.mode;
-      done = it.done;
-      refused = it.refused;
-      undone = it.undone;
-      told = it.told;
-      crash = it.crash;
+      transacts = it;
       breaks = λ over. told_broke s old mid new (IsMade makes (state s old).now) run.crash told.crash c.in-Err-Statement.error c.fault_after.result (λ clean is. run.breaks over clean (ap stop_fault c.in-Err-Statement.field-0-is ∙ is)) told.failed told.refused;
     }
 
@@ -35,11 +33,6 @@ returns-in-Err-Commit g c =
     let run = c.in-Err-Commit.ensures in
     let fault = commit_told c.commit_fault_of.result c.in-Err-Commit.error c.commit_fault_of.ensures in
     record {
-      mode = run.mode;
-      done = λ clean. tt;
-      refused = λ clean is. absurd (fault.1 is);
-      undone = run.undone;
-      told = fault.0;
-      crash = run.crash;
+      transacts = record { mode = run.mode; done = λ clean. tt; refused = λ clean is. absurd (fault.1 is); undone = run.undone; told = fault.0; crash = run.crash };
       breaks = λ over clean is. run.breaks over clean (ap stop_fault c.in-Err-Commit.field-0-is ∙ sym c.commit_fault_of.ensures ∙ is);
     }

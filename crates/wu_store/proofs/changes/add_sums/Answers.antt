@@ -26,8 +26,11 @@ loop-sum-preserved g c =
       λ clean. subst (λ ss. Credits ss old new) more (credits_more old mid new (take i sums) one (credits (omega (arith, clean, wrote.part.survives.clean))) (c.in_ok-add_sum.ensures.credits clean)),
     )
 
-pub returns-clause-credits : goal.returns-clause-credits
-returns-clause-credits g c clean =
-    let at_end : c.loop-sum.sum-index ≡ length c.args.sums.now = omega (arith, c.loop-sum-test.false, c.loop-sum.auto.sum-index-end) in
-    let whole : take c.loop-sum.sum-index c.args.sums.now ≡ c.args.sums.now = rw at_end (take-length c.args.sums.now) in
-    subst (λ ss. Credits ss (state g.S.Store c.args.tx.now.conn.now).now (state g.S.Store c.loop-sum.tx.conn.now).now) whole (c.loop-sum.invariant.1 clean)
+pub returns : goal.returns
+returns g c = record {
+  works = search rules;
+  makes = λ clean.
+      let at_end : c.loop-sum.sum-index ≡ length c.args.sums.now = omega (arith, c.loop-sum-test.false, c.loop-sum.auto.sum-index-end) in
+      let whole : take c.loop-sum.sum-index c.args.sums.now ≡ c.args.sums.now = rw at_end (take-length c.args.sums.now) in
+      subst (λ ss. Credits ss (state g.S.Store c.args.tx.now.conn.now).now (state g.S.Store c.loop-sum.tx.conn.now).now) whole (c.loop-sum.invariant.1 clean);
+}

@@ -16,8 +16,11 @@ loop-change-preserved g c =
           makes_more c.args.changes.now c.loop-change.change-index c.change-item.result c.change-item.result _ _ _ (search rules) (omega (arith, c.loop-change-test.true)) (makes (omega (arith, one.works.part.survives.clean))) (one.makes clean),
     )
 
-pub returns-clause-makes : goal.returns-clause-makes
-returns-clause-makes g c clean =
-    let at_end : c.loop-change.change-index ≡ length c.args.changes.now = omega (arith, c.loop-change-test.false, c.loop-change.auto.change-index-end) in
-    let whole : take c.loop-change.change-index c.args.changes.now ≡ c.args.changes.now = rw at_end (take-length c.args.changes.now) in
-    rw whole at (c.loop-change.invariant.1 clean)
+pub returns : goal.returns
+returns g c = record {
+  works = search rules;
+  makes = λ clean.
+      let at_end : c.loop-change.change-index ≡ length c.args.changes.now = omega (arith, c.loop-change-test.false, c.loop-change.auto.change-index-end) in
+      let whole : take c.loop-change.change-index c.args.changes.now ≡ c.args.changes.now = rw at_end (take-length c.args.changes.now) in
+      rw whole at (c.loop-change.invariant.1 clean);
+}

@@ -28,8 +28,8 @@ loop-row-preserved g c =
             λ world s same q.
                 let (stands, filled) = so_far.1 world s same q in
                 let more : with_marks one.0 one.1 (take i rows) ≡ take (i + 1) rows = subst (λ rs. with_marks one.0 one.1 (take i rs) ≡ take (i + 1) rs) (sym same) (filled_more marks world.workunits (world_rises _ world s) i one one (subst (λ rs. i < length rs) same low) (ap (λ rs. get_or rs i one) (sym same) ∙ at)) in (
-                  c.in_ok-insert_marks.ensures.stays clean world (take i rows) stands filled,
-                  subst (HasQueue _) more (c.in_ok-insert_marks.ensures.puts clean world (take i rows) stands filled),
+                  c.in_ok-insert_marks.ensures.keeps clean world (take i rows) stands filled,
+                  subst (HasQueue _) more (c.in_ok-insert_marks.ensures.makes clean world (take i rows) stands filled),
                 ),
           ),
     )

@@ -31,8 +31,11 @@ loop-grant-preserved g c =
           subst (λ gs. PutsGrants c.args.place gs old new) more (puts_more c.args.place old mid new (take i grants) one (puts (omega (arith, clean, wrote.part.survives.clean))) last),
     )
 
-pub returns-clause-puts : goal.returns-clause-puts
-returns-clause-puts g c clean =
-    let at_end : c.loop-grant.grant-index ≡ length c.args.grants.now = omega (arith, c.loop-grant-test.false, c.loop-grant.auto.grant-index-end) in
-    let whole : take c.loop-grant.grant-index c.args.grants.now ≡ c.args.grants.now = rw at_end (take-length c.args.grants.now) in
-    subst (λ gs. PutsGrants c.args.place gs (state g.S.Store c.args.tx.now.conn.now).now (state g.S.Store c.loop-grant.tx.conn.now).now) whole (c.loop-grant.invariant.2 clean)
+pub returns : goal.returns
+returns g c = record {
+  works = search rules;
+  makes = λ clean.
+      let at_end : c.loop-grant.grant-index ≡ length c.args.grants.now = omega (arith, c.loop-grant-test.false, c.loop-grant.auto.grant-index-end) in
+      let whole : take c.loop-grant.grant-index c.args.grants.now ≡ c.args.grants.now = rw at_end (take-length c.args.grants.now) in
+      subst (λ gs. PutsGrants c.args.place gs (state g.S.Store c.args.tx.now.conn.now).now (state g.S.Store c.loop-grant.tx.conn.now).now) whole (c.loop-grant.invariant.2 clean);
+}

@@ -26,11 +26,11 @@ loop-instance-preserved g c =
       works_then works (works_once wrote),
       λ clean.
           let still : HasCleanDisk (state g.S.Store c.loop-instance.tx.conn.now) = omega (arith, wrote.part.survives.clean) in
-          let adds : AddsInstance w.number i one old new = subst (λ n. AddsInstance w.number n one old new) place (c.in_ok-insert_instance.ensures.puts clean) in (
+          let adds : AddsInstance w.number i one old new = subst (λ n. AddsInstance w.number n one old new) place (c.in_ok-insert_instance.ensures.makes clean) in (
             spares_then tables_of_workunits _ old new (before still).0 (of_result old new (c.in_ok-insert_instance.ensures.spares clean)),
             (
               λ world none s. next_instance old new w i one one world none low at adds ((before still).1.0 world none s),
-              λ world marked none s q. c.in_ok-insert_instance.ensures.queue clean (with_placed (first_instances i w) world) marked ((before still).1.0 world none s) ((before still).1.1 world marked none s q),
+              λ world marked none s q. c.in_ok-insert_instance.ensures.keeps clean (with_placed (first_instances i w) world) marked ((before still).1.0 world none s) ((before still).1.1 world marked none s q),
             ),
           ),
     )

@@ -1,5 +1,5 @@
 use Rattle.std.proofs.lemmas.Option.{slice_get-get_or}
-use Rattle.wu_schema.proofs.Words.{HasCleanDisk, Instance, Refines, Some, ap, arith, get_or, length, refl, slice_get, state, subst, suc, sym, ◌+◌, ◌<◌, ◌∙◌, ◌≡◌}
+use Rattle.wu_schema.proofs.Words.{HasCleanDisk, Instance, Refines, Some, ap, arith, get_or, length, refl, slice_get, state, subst, suc, sym, ◌+◌, ◌<◌, ◌∙◌, ◌≡◌, rules}
 use Rattle.wu_store.proofs.ChangeLemmas.{works_none, works_then}
 use Rattle.wu_store.specs.Changes.{StandsBeside, with_put, with_replaced}
 use Rattle.wu_store.proofs.ReplaceLemmas.{got_mixed, lent_at, listing, long_mixed, mixed, put_mixed, put_replaced, replaced_found, whole_mixed}
@@ -44,28 +44,32 @@ loop-instance-preserved g c =
           ),
     )
 
-pub returns-clause-puts : goal.returns-clause-puts
-returns-clause-puts g c clean world v found few s =
-    let w = c.args.workunit.now in
-    let items = c.as_slice-instances.ensures.items in
-    let at_end : c.loop-instance.instance-index ≡ length w.instances = omega (arith, c.loop-instance-test.false, c.loop-instance.auto.instance-index-end, ap (λ is. length is) items) in
-    let whole = ap (λ n. mixed n w.instances c.args.was.now) at_end ∙ whole_mixed w.instances c.args.was.now few in
-    subst (λ is. StandsBeside (with_replaced (listing w is) world) (state g.S.Store c.args.tx.now.conn.now).now (state g.S.Store c.loop-instance.tx.conn.now).now) whole ((c.loop-instance.invariant.3 clean).1 world v found s)
+pub returns : goal.returns
+returns g c = record {
+  works = search rules;
+  puts = λ clean world v found few s.
+      let w = c.args.workunit.now in
+      let items = c.as_slice-instances.ensures.items in
+      let at_end : c.loop-instance.instance-index ≡ length w.instances = omega (arith, c.loop-instance-test.false, c.loop-instance.auto.instance-index-end, ap (λ is. length is) items) in
+      let whole = ap (λ n. mixed n w.instances c.args.was.now) at_end ∙ whole_mixed w.instances c.args.was.now few in
+      subst (λ is. StandsBeside (with_replaced (listing w is) world) (state g.S.Store c.args.tx.now.conn.now).now (state g.S.Store c.loop-instance.tx.conn.now).now) whole ((c.loop-instance.invariant.3 clean).1 world v found s);
+  idle = λ all. (c.loop-instance.invariant.2 all, refl);
+  spares = λ clean. (c.loop-instance.invariant.3 clean).0;
+}
 
-pub returns-clause-idle : goal.returns-clause-idle
-returns-clause-idle g c all = (c.loop-instance.invariant.2 all, refl)
-
-pub returns-in_err-put_instance-clause-idle : goal.returns-in_err-put_instance-clause-idle
-returns-in_err-put_instance-clause-idle g c all =
-    let place = c.loop-instance.invariant.0 in
-    let w = c.args.workunit.now in
-    let k = c.loop-instance.instance-index in
-    let one = c.instance-item.result in
-    let items = c.as_slice-instances.ensures.items in
-    let low : k < length w.instances = omega (arith, c.loop-instance-test.true, ap (λ is. length is) items) in
-    let at : get_or w.instances k one ≡ one = ap (λ is. get_or is k one) (sym items) ∙ sym c.instance-item.is in
-    let got = sym (lent_at c.args.was.now c.loop-instance.n c.get.result c.get.ensures.lookup) ∙ (λ i. slice_get (all i) (place i)) ∙ slice_get-get_or w.instances k one low ∙ ap (λ (j : Instance). Some j) at in
-    absurd (let no = (c.in_err-put_instance.ensures.idle got).1 in cc)
-
-pub returns-clause-spares : goal.returns-clause-spares
-returns-clause-spares g c clean = (c.loop-instance.invariant.3 clean).0
+pub returns-in_err-put_instance : goal.returns-in_err-put_instance
+returns-in_err-put_instance g c = record {
+  works = search rules;
+  puts = search rules;
+  idle = λ all.
+      let place = c.loop-instance.invariant.0 in
+      let w = c.args.workunit.now in
+      let k = c.loop-instance.instance-index in
+      let one = c.instance-item.result in
+      let items = c.as_slice-instances.ensures.items in
+      let low : k < length w.instances = omega (arith, c.loop-instance-test.true, ap (λ is. length is) items) in
+      let at : get_or w.instances k one ≡ one = ap (λ is. get_or is k one) (sym items) ∙ sym c.instance-item.is in
+      let got = sym (lent_at c.args.was.now c.loop-instance.n c.get.result c.get.ensures.lookup) ∙ (λ i. slice_get (all i) (place i)) ∙ slice_get-get_or w.instances k one low ∙ ap (λ (j : Instance). Some j) at in
+      absurd (let no = (c.in_err-put_instance.ensures.idle got).1 in cc);
+  spares = search rules;
+}

@@ -23,7 +23,7 @@ returns g c =
     let first : HasCleanDisk mid → (count : ℕ) × Executes cut_text (Text it.host ∷ []) old mid (Ok count) = λ clean. ran_as old mid cut_text _ _ given done (c.in_ok-execute.ensures.ran clean) (λ count ran. (count, ran)) in
     record {
       writes = frame_then g.S.Store _ _ _ tt c.in_ok-execute.ensures.writes r c.execute-2.ensures.writes;
-      sets = λ clean.
+      makes = λ clean.
           let one = first (omega (arith, clean, c.execute-2.ensures.writes.part.survives.clean)) in
           ran_as mid new host_put.text _ _ then r (c.execute-2.ensures.ran clean) (λ count ran. changes_host it old mid new one.0 one.1 count ran);
       spares = λ clean.

@@ -13,6 +13,6 @@ returns g c =
     let given : _ ≡ number c.args.workunit ∷ number c.args.class ∷ [] = also (sent_number c.args.workunit c.params-to_sql.ensures c.in_ok-workunit.ensures.value c.in_ok-workunit.ensures.within) (also (ap bound_value c.params-to_sql-2.ensures) no_more) in
     record {
       writes = c.execute.ensures.writes;
-      sets = λ clean. ran_as _ _ class_set.text _ _ given c.execute.result (c.execute.ensures.ran clean) (changes_class c.args.workunit c.args.class _ _);
+      makes = λ clean. ran_as _ _ class_set.text _ _ given c.execute.result (c.execute.ensures.ran clean) (changes_class c.args.workunit c.args.class _ _);
       spares = λ clean. ran_as _ _ class_set.text _ _ given c.execute.result (c.execute.ensures.ran clean) (set_spares workunit_class_table (λ tree. (refl, ours_workunit_class)) 1 class_set class_set_fits _ _ _);
     }

@@ -28,7 +28,7 @@ pub loop-next-preserved : goal.loop-next-preserved
 loop-next-preserved g c =
     reads_made g.S.Store _ _ c.in_ok-next-2.next tt (reads_both g.S.Store _ _ _ tt c.loop-next.invariant c.in_ok-next-2.next c.in_ok-next-2.ensures.reads) (λ world stands found early.
     let so_far : AreListed marks_row world c.loop-next.rows.items (Some c.in-Some.workunit) = subst (λ (next : Option Workunit). AreListed marks_row world c.loop-next.rows.items next) c.in-Some.is (found.0 early) in
-    one_listed marks_row world c.loop-next.rows.items c.in-Some.workunit so_far (state g.S.Store c.args.conn.now).now stands c.add_marks.new.rows.items c.in_ok-add_marks.ensures.added c.in_ok-next-2.next (found.1 early))
+    one_listed marks_row world c.loop-next.rows.items c.in-Some.workunit so_far (state g.S.Store c.args.conn.now).now stands c.add_marks.new.rows.items c.in_ok-add_marks.ensures.ok c.in_ok-next-2.next (found.1 early))
 
 pub returns : goal.returns
 returns g c = record {

@@ -11,7 +11,7 @@ returns g c =
     let i = c.args.instance.now in
     record {
       writes = c.run_instance.ensures.writes;
-      sets = λ clean. ok_on c.run_instance.result _ _ (λ it world w s is low. sets_instance _ _ world s c.args.workunit c.args.n i w is low it.0 it.1) (c.run_instance.ensures.ran clean);
-      queue = λ clean. ok_on c.run_instance.result _ _ (λ it world w marked s is low q. set_leaves _ _ world s c.args.workunit c.args.n i w is low it.0 it.1 marked q) (c.run_instance.ensures.ran clean);
+      makes = λ clean. ok_on c.run_instance.result _ _ (λ it world w s is low. sets_instance _ _ world s c.args.workunit c.args.n i w is low it.0 it.1) (c.run_instance.ensures.ran clean);
+      keeps = λ clean. ok_on c.run_instance.result _ _ (λ it world w marked s is low q. set_leaves _ _ world s c.args.workunit c.args.n i w is low it.0 it.1 marked q) (c.run_instance.ensures.ran clean);
       spares = λ clean. ok_on c.run_instance.result _ _ (λ it. set_spares result_table (λ tree. (refl, ours_result)) 2 instance_set instance_set_fits _ _ _ it.0 it.1) (c.run_instance.ensures.ran clean);
     }

@@ -11,7 +11,7 @@ returns g c =
     let m = c.args.marks.now in
     record {
       writes = c.run_marks.ensures.writes;
-      sets = λ clean. ok_on c.run_marks.result _ _ (λ it world marked s q. sets_marks _ _ world s marked q c.args.workunit m it.0 it.1) (c.run_marks.ensures.ran clean);
-      stays = λ clean. ok_on c.run_marks.result _ _ (λ it world marked s q. sets_beside _ _ world s marked q c.args.workunit m it.0 it.1) (c.run_marks.ensures.ran clean);
+      makes = λ clean. ok_on c.run_marks.result _ _ (λ it world marked s q. sets_marks _ _ world s marked q c.args.workunit m it.0 it.1) (c.run_marks.ensures.ran clean);
+      keeps = λ clean. ok_on c.run_marks.result _ _ (λ it world marked s q. sets_beside _ _ world s marked q c.args.workunit m it.0 it.1) (c.run_marks.ensures.ran clean);
       spares = λ clean. ok_on c.run_marks.result _ _ (λ it. set_spares queue_table (λ tree. (refl, ours_queue)) 1 marks_set marks_set_fits _ _ _ it.0 it.1) (c.run_marks.ensures.ran clean);
     }

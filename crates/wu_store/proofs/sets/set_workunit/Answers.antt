@@ -11,7 +11,7 @@ returns g c =
     let w = c.args.workunit.now in
     record {
       writes = c.run_workunit.ensures.writes;
-      sets = λ clean. ok_on c.run_workunit.result _ _ (λ it world s there. sets_row _ _ world s w there it.0 it.1) (c.run_workunit.ensures.ran clean);
-      queue = λ clean. ok_on c.run_workunit.result _ _ (λ it world marked s there q. row_leaves _ _ world s w there it.0 it.1 marked q) (c.run_workunit.ensures.ran clean);
+      makes = λ clean. ok_on c.run_workunit.result _ _ (λ it world s there. sets_row _ _ world s w there it.0 it.1) (c.run_workunit.ensures.ran clean);
+      keeps = λ clean. ok_on c.run_workunit.result _ _ (λ it world marked s there q. row_leaves _ _ world s w there it.0 it.1 marked q) (c.run_workunit.ensures.ran clean);
       spares = λ clean. ok_on c.run_workunit.result _ _ (λ it. set_spares workunit_table (λ tree. (refl, ours_workunit)) 1 workunit_set workunit_set_fits _ _ _ it.0 it.1) (c.run_workunit.ensures.ran clean);
     }

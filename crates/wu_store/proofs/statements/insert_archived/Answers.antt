@@ -22,7 +22,7 @@ returns g c =
     (also (sent_number a.done_at c.params-to_sql-7.ensures c.seconds-done_at.ensures.value c.seconds-done_at.ensures.within) no_more)))))) in
     record {
       writes = c.execute.ensures.writes;
-      puts = λ clean. ran_as _ _ archived_put.text _ _ given c.execute.result (c.execute.ensures.ran clean) (λ count ran world s. stands_with_archived _ _ world s c.args.seq a (put_archived _ _ world s c.args.seq a count ran));
-      queue = λ clean. ran_as _ _ archived_put.text _ _ given c.execute.result (c.execute.ensures.ran clean) (λ count ran world marked s q. queue_beside _ world s marked q _ the_table.Archived tt _ (put_archived _ _ world s c.args.seq a count ran));
+      makes = λ clean. ran_as _ _ archived_put.text _ _ given c.execute.result (c.execute.ensures.ran clean) (λ count ran world s. stands_with_archived _ _ world s c.args.seq a (put_archived _ _ world s c.args.seq a count ran));
+      keeps = λ clean. ran_as _ _ archived_put.text _ _ given c.execute.result (c.execute.ensures.ran clean) (λ count ran world marked s q. queue_beside _ world s marked q _ the_table.Archived tt _ (put_archived _ _ world s c.args.seq a count ran));
       spares = λ clean. ran_as _ _ archived_put.text _ _ given c.execute.result (c.execute.ensures.ran clean) (insert_spares archived_table.0 archived_table.1 archived_put archived_fits (λ tree. ours_archived) _ _ _);
     }

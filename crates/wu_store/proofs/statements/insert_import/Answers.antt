@@ -22,7 +22,7 @@ returns g c =
     (also (ap bound_value c.params-to_sql-6.ensures ∙ ap (λ t. Text t) c.digits.ensures) no_more))))) in
     record {
       writes = c.execute.ensures.writes;
-      puts = λ clean. ran_as _ _ import_put.text _ _ given c.execute.result (c.execute.ensures.ran clean) (λ count ran world s kept. stands_with_import _ _ world s i kept (put_import _ _ world s i count ran));
-      queue = λ clean. ran_as _ _ import_put.text _ _ given c.execute.result (c.execute.ensures.ran clean) (λ count ran world marked s q. queue_beside _ world s marked q _ the_table.Import tt _ (put_import _ _ world s i count ran));
+      makes = λ clean. ran_as _ _ import_put.text _ _ given c.execute.result (c.execute.ensures.ran clean) (λ count ran world s kept. stands_with_import _ _ world s i kept (put_import _ _ world s i count ran));
+      keeps = λ clean. ran_as _ _ import_put.text _ _ given c.execute.result (c.execute.ensures.ran clean) (λ count ran world marked s q. queue_beside _ world s marked q _ the_table.Import tt _ (put_import _ _ world s i count ran));
       spares = λ clean. ran_as _ _ import_put.text _ _ given c.execute.result (c.execute.ensures.ran clean) (insert_spares import_table.0 import_table.1 import_put import_fits (λ tree. ours_import) _ _ _);
     }

@@ -13,7 +13,7 @@ returns g c =
     let i = c.args.instance.now in
     record {
       writes = c.run_instance.ensures.writes;
-      puts = λ clean. ok_on c.run_instance.result _ _ (λ it world s has. stands_with_instance _ _ world s c.args.workunit c.args.n i (put_instance _ _ world s c.args.workunit c.args.n i it.0 it.1) has) (c.run_instance.ensures.ran clean);
-      queue = λ clean. ok_on c.run_instance.result _ _ (λ it world marked s q. queue_beside _ world s marked q _ the_table.Result tt _ (put_instance _ _ world s c.args.workunit c.args.n i it.0 it.1)) (c.run_instance.ensures.ran clean);
+      makes = λ clean. ok_on c.run_instance.result _ _ (λ it world s has. stands_with_instance _ _ world s c.args.workunit c.args.n i (put_instance _ _ world s c.args.workunit c.args.n i it.0 it.1) has) (c.run_instance.ensures.ran clean);
+      keeps = λ clean. ok_on c.run_instance.result _ _ (λ it world marked s q. queue_beside _ world s marked q _ the_table.Result tt _ (put_instance _ _ world s c.args.workunit c.args.n i it.0 it.1)) (c.run_instance.ensures.ran clean);
       spares = λ clean. ok_on c.run_instance.result _ _ (λ it. insert_spares result_table.0 result_table.1 instance_put instance_fits (λ tree. ours_result) _ _ _ it.0 it.1) (c.run_instance.ensures.ran clean);
     }

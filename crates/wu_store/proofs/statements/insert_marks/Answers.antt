@@ -10,7 +10,7 @@ returns g c =
     let m = c.args.marks.now in
     record {
       writes = c.run_marks.ensures.writes;
-      puts = λ clean. ok_on c.run_marks.result _ _ (λ it world marked s q. puts_marks _ _ world s marked q c.args.workunit m it.0 it.1) (c.run_marks.ensures.ran clean);
-      stays = λ clean. ok_on c.run_marks.result _ _ (λ it world marked s q. leaves_world _ _ world s marked q c.args.workunit m it.0 it.1) (c.run_marks.ensures.ran clean);
+      makes = λ clean. ok_on c.run_marks.result _ _ (λ it world marked s q. puts_marks _ _ world s marked q c.args.workunit m it.0 it.1) (c.run_marks.ensures.ran clean);
+      keeps = λ clean. ok_on c.run_marks.result _ _ (λ it world marked s q. leaves_world _ _ world s marked q c.args.workunit m it.0 it.1) (c.run_marks.ensures.ran clean);
       spares = λ clean. ok_on c.run_marks.result _ _ (λ it. insert_spares queue_table.0 queue_table.1 queue_put queue_fits (λ tree. ours_queue) _ _ _ it.0 it.1) (c.run_marks.ensures.ran clean);
     }

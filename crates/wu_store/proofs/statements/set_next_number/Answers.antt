@@ -14,7 +14,7 @@ returns g c =
     let given : _ ≡ number c.args.next_number ∷ [] = also (sent_number c.args.next_number c.params-to_sql.ensures c.in_ok-next_number.ensures.value c.in_ok-next_number.ensures.within) no_more in
     record {
       writes = c.execute.ensures.writes;
-      sets = λ clean. ran_as _ _ next_set.text _ _ given c.execute.result (c.execute.ensures.ran clean) (λ count ran world s. sets_number _ _ world s c.args.next_number count ran);
-      queue = λ clean. ran_as _ _ next_set.text _ _ given c.execute.result (c.execute.ensures.ran clean) (λ count ran world marked s q. project_leaves _ _ world s marked q next_set next_fits c.args.next_number count ran);
+      makes = λ clean. ran_as _ _ next_set.text _ _ given c.execute.result (c.execute.ensures.ran clean) (λ count ran world s. sets_number _ _ world s c.args.next_number count ran);
+      keeps = λ clean. ran_as _ _ next_set.text _ _ given c.execute.result (c.execute.ensures.ran clean) (λ count ran world marked s q. project_leaves _ _ world s marked q next_set next_fits c.args.next_number count ran);
       spares = λ clean. ran_as _ _ next_set.text _ _ given c.execute.result (c.execute.ensures.ran clean) (set_spares project_table (λ tree. (refl, ours_project)) 0 next_set next_fits _ _ _);
     }

@@ -17,7 +17,7 @@ returns g c =
     let new = state g.S.Store c.execute.new.tx.conn.now in
     record {
       writes = c.execute.ensures.writes;
-      sets = λ clean. ran_as old new version_set.text _ _ given c.execute.result (c.execute.ensures.ran clean) (λ count ran world three older s c'. subst (λ n. Executes version_set.text (number n ∷ []) old new (Ok count) → Refines new.now (with_version n world)) (sym three) (sets_classes old new world s older c' count) ran);
-      queue = λ clean. ran_as _ _ version_set.text _ _ given c.execute.result (c.execute.ensures.ran clean) (λ count ran world marked s q. project_leaves _ _ world s marked q version_set version_fits c.args.version count ran);
+      makes = λ clean. ran_as old new version_set.text _ _ given c.execute.result (c.execute.ensures.ran clean) (λ count ran world three older s c'. subst (λ n. Executes version_set.text (number n ∷ []) old new (Ok count) → Refines new.now (with_version n world)) (sym three) (sets_classes old new world s older c' count) ran);
+      keeps = λ clean. ran_as _ _ version_set.text _ _ given c.execute.result (c.execute.ensures.ran clean) (λ count ran world marked s q. project_leaves _ _ world s marked q version_set version_fits c.args.version count ran);
       spares = λ clean. ran_as _ _ version_set.text _ _ given c.execute.result (c.execute.ensures.ran clean) (set_spares project_table (λ tree. (refl, ours_project)) 0 version_set version_fits _ _ _);
     }

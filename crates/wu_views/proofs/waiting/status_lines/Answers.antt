@@ -39,5 +39,5 @@ returns g c = record {
       let told : IfErr r IsReadFault = search rules in
       reads_also g.S.Store _ _ c.in_ok-hosts.hosts r (never_broken r told) (fault_read r told) four
       (λ world stood found. subst (λ (lines : List StatusLine). IfOk r (λ all. all.items ≡ lines)) (λ j. found.0.0.0 j ++ count_lines (found.0.0.1 j) (found.0.1 j) ++ map Host (found.1 j)) c.with_counts.ensures.ok)
-      (λ world stood found can. unrefused r c.with_counts.ensures.memory);
+      (λ world stood found can. unrefused r c.with_counts.ensures.fault);
 }

@@ -45,7 +45,7 @@ returns-in_default-clause-adopted g c =
     let unlimited = bare_limit g.S.Store c.args.conn.now c.set_step_limit.new.self c.set_step_limit.ensures asked in
     let same = asks_unchanged g.S.Store c.set_step_limit.new.self c.version_of.new.conn c.in_ok-version.field-0 c.in_ok-version.ensures.asks c.in_ok-version.ensures.opens in
     bare_adopts g.S.Store c.args.conn.now c.set_step_limit.new.self c.set_step_limit.ensures (state g.S.Store c.create.new.conn)
-    (fresh_adopts (state g.S.Store c.set_step_limit.new.self) asked c.version_of.ensures.asks.crash unlimited (state g.S.Store c.create.new.conn) c.create.ensures.crash same (λ clean. (c.in_ok-version.ensures.answers clean).none c.in_default.is) c.in_ok-create.ensures.done)
+    (fresh_adopts (state g.S.Store c.set_step_limit.new.self) asked c.version_of.ensures.asks.crash unlimited (state g.S.Store c.create.new.conn) c.create.ensures.transacts.crash same (λ clean. (c.in_ok-version.ensures.answers clean).none c.in_default.is) c.in_ok-create.ensures.transacts.done)
 
 pub returns-in_default-clause-version : goal.returns-in_default-clause-version
 returns-in_default-clause-version g c =
@@ -53,7 +53,7 @@ returns-in_default-clause-version g c =
     let unlimited = bare_limit g.S.Store c.args.conn.now c.set_step_limit.new.self c.set_step_limit.ensures asked in
     let same = asks_unchanged g.S.Store c.set_step_limit.new.self c.version_of.new.conn c.in_ok-version.field-0 c.in_ok-version.ensures.asks c.in_ok-version.ensures.opens in
     bare_knows g.S.Store c.args.conn.now c.set_step_limit.new.self c.set_step_limit.ensures (state g.S.Store c.create.new.conn) _
-    (fresh_knows (state g.S.Store c.set_step_limit.new.self) asked c.version_of.ensures.asks.crash unlimited (state g.S.Store c.create.new.conn) c.create.ensures.crash same (λ clean. (c.in_ok-version.ensures.answers clean).none c.in_default.is))
+    (fresh_knows (state g.S.Store c.set_step_limit.new.self) asked c.version_of.ensures.asks.crash unlimited (state g.S.Store c.create.new.conn) c.create.ensures.transacts.crash same (λ clean. (c.in_ok-version.ensures.answers clean).none c.in_default.is))
 
 pub returns-in_default-clause-new : goal.returns-in_default-clause-new
 returns-in_default-clause-new g c =
@@ -61,7 +61,7 @@ returns-in_default-clause-new g c =
     let unlimited = bare_limit g.S.Store c.args.conn.now c.set_step_limit.new.self c.set_step_limit.ensures asked in
     let same = asks_unchanged g.S.Store c.set_step_limit.new.self c.version_of.new.conn c.in_ok-version.field-0 c.in_ok-version.ensures.asks c.in_ok-version.ensures.opens in
     bare_new g.S.Store c.args.conn.now c.set_step_limit.new.self c.set_step_limit.ensures (state g.S.Store c.create.new.conn) _
-    (fresh_tells (state g.S.Store c.set_step_limit.new.self) asked c.version_of.ensures.asks.crash unlimited (state g.S.Store c.create.new.conn) c.create.ensures.crash same (λ clean. (c.in_ok-version.ensures.answers clean).none c.in_default.is))
+    (fresh_tells (state g.S.Store c.set_step_limit.new.self) asked c.version_of.ensures.asks.crash unlimited (state g.S.Store c.create.new.conn) c.create.ensures.transacts.crash same (λ clean. (c.in_ok-version.ensures.answers clean).none c.in_default.is))
 
 pub returns-in_err-create-clause-refused : goal.returns-in_err-create-clause-refused
 returns-in_err-create-clause-refused g c =
@@ -70,10 +70,10 @@ returns-in_err-create-clause-refused g c =
     let same = asks_unchanged g.S.Store c.set_step_limit.new.self c.version_of.new.conn c.in_ok-version.field-0 c.in_ok-version.ensures.asks c.in_ok-version.ensures.opens in
     rw (handed_is c.from_residual-in_err-create.result c.in_err-create.field-0.0 c.from_residual-in_err-create.ensures.1)
     (bare_refused g.S.Store c.args.conn.now c.set_step_limit.new.self c.set_step_limit.ensures (state g.S.Store c.create.new.conn) c.in_err-create.field-0.0
-    (unmade_refuses (state g.S.Store c.set_step_limit.new.self) asked c.version_of.ensures.asks.crash unlimited (state g.S.Store c.create.new.conn) c.create.ensures.crash same (λ clean. (c.in_ok-version.ensures.answers clean).none c.in_default.is)
+    (unmade_refuses (state g.S.Store c.set_step_limit.new.self) asked c.version_of.ensures.asks.crash unlimited (state g.S.Store c.create.new.conn) c.create.ensures.transacts.crash same (λ clean. (c.in_ok-version.ensures.answers clean).none c.in_default.is)
     (bare_settled g.S.Store c.args.conn.now c.set_step_limit.new.self c.set_step_limit.ensures asked (c.if-not-is_autocommit.ensures.settled refl))
     (leaves_only g.S.Store g.met.S.Store.settled g.met.S.Store.stays c.version_of.new.conn)
-    c.in_err-create.field-0.0 c.in_err-create.ensures.told c.in_err-create.ensures.undone c.in_err-create.ensures.refused c.in_err-create.ensures.breaks))
+    c.in_err-create.field-0.0 c.in_err-create.ensures.transacts.told c.in_err-create.ensures.transacts.undone c.in_err-create.ensures.transacts.refused c.in_err-create.ensures.breaks))
 
 pub returns-in_err-version-clause-refused : goal.returns-in_err-version-clause-refused
 returns-in_err-version-clause-refused g c =

@@ -21,4 +21,4 @@ returns-clause-also c =
     let new : AllByRecursion IsUnderItsName c.insert.new.self.entries = rw c.in_ok-insert.ensures.entries (under_inserted c.self.inside.by_name.entries c.in_ok-name.name touch is c.self.invariant) in
     subst (λ (ts : List Touch). HasAlso c.args.workunit ts (values_of c.insert.new.self.entries)) c.self.view_is
     (also_inserted c.self.inside.by_name c.insert.new.self c.in_ok-name.name c.args.workunit is c.self.invariant new
-    (subst (λ (was : Workunit). UpdatesBy string_cmp (string_cmp c.in_ok-name.name) c.self.inside.by_name c.insert.new.self (Some (record { was = was; now = c.args.workunit }))) c.in_ok-was.ensures.copy c.in_ok-insert.ensures.updates))
+    (subst (λ (was : Workunit). UpdatesBy string_cmp (string_cmp c.in_ok-name.name) c.self.inside.by_name c.insert.new.self (Some (record { was = was; now = c.args.workunit }))) c.in_ok-was.ensures.ok c.in_ok-insert.ensures.updates))
