@@ -1,5 +1,5 @@
 -- Which faults the readers tell.
-use Rattle.std.proofs.Common.{ℕ, ◌+◌, Bool, true, false, inl, inr, List, [], ◌∷◌, length, nat_lt, Result, Ok, Err, Option, Some, None, IfErr, if◌then◌else◌, find, not, refl}
+use Rattle.std.proofs.Common.{ℕ, ◌+◌, Bool, true, false, inl, inr, List, [], ◌∷◌, length, nat_lt, Result, Ok, Err, Option, Some, None, IfErr, IfOk, ◌≤◌, if◌then◌else◌, find, not, refl}
 use Rattle.toml.specs.Data.{Members}
 use Rattle.wu_core.specs.Names.{is_name, name_of}
 use Rattle.wu_core.specs.ResultNames.{result_name_of}
@@ -19,8 +19,8 @@ use Rattle.wu_feed.specs.Classes.{class_written, classes_header, classes_of_file
 use Rattle.wu_feed.specs.Fields.{two_of}
 use Rattle.wu_feed.specs.Inputs.{input_of}
 use Rattle.wu_feed.specs.Jobs.{job_of, job_of_two, job_with, jobs_header, jobs_of_file}
-use Rattle.wu_feed.specs.Limits.{last_row, longest_file}
-use Rattle.wu_feed.specs.Rows.{is_header, IsFileFault, records_of, row_at, rows_from, rows_of_file, rows_under, with_first}
+use Rattle.wu_feed.specs.Limits.{last_row, longest_file, most_rows}
+use Rattle.wu_feed.specs.Rows.{IsFileFault, ReadsFile, TellsTooLong, is_header, records_of, row_at, rows_from, rows_of_file, rows_under, with_first}
 use Rattle.wu_feed.specs.Moments.{moment_of}
 use Rattle.wu_feed.specs.declared.reports.ReportRow.{ReportRow}
 use Rattle.wu_feed.specs.Reports.{report_of, report_of_fields, report_with, reported_output, reports_header, reports_of_file}
@@ -148,3 +148,10 @@ report_told number (a ∷ b ∷ c ∷ d ∷ e ∷ f ∷ more) = inr (number, cau
 -- a file of reports
 pub reports_told : (file : List ℕ) (result : Result (List ReportRow) Fault) → IsOrWantsMemory result (reports_of_file file) → IfErr result IsFileFault
 reports_told = read_told report_of report_told reports_header
+
+-- ---- a whole file
+
+-- what was read of a file of rows whose faults and ranges are known
+pub file_read : {R : Type 0} (rows_of : List ℕ → Result (List R) Fault) (AreRows : List R → Type 0) → ((file : List ℕ) (result : Result (List R) Fault) → IsOrWantsMemory result (rows_of file) → IfErr result IsFileFault) → ((file : List ℕ) (result : Result (List R) Fault) → IsOrWantsMemory result (rows_of file) → IfOk result AreRows)
+    → (file : List ℕ) (result : Result (List R) Fault) → IsOrWantsMemory result (rows_of file) → TellsTooLong result file → IfOk result (λ rows. length rows ≤ most_rows) → ReadsFile result file rows_of AreRows
+file_read rows_of AreRows told ranged file result exact long few = record { exact = exact; long = long; told = told file result exact; few = few; ranged = ranged file result exact }

@@ -74,7 +74,8 @@ fn take_instances(
     Ok(instances)
 }
 
-/// Gives back the memory of the instances that were taken, each time that an eighth is free. No instance goes.
+/// Gives back the memory of the instances that were taken, each time that an eighth is free. No instance goes. No
+/// clause speaks of the memory.
 fn give_back(left: &mut VecDeque<Placed>)
     ensures { left.new.items ≡ left.old.items }
 {
